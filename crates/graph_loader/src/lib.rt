@@ -1,0 +1,16 @@
+//! From the bytes of two data files to a property graph.
+//!
+//! It stands on `surge_outside`. It offers the numbers of nodes, edges and views, cells and values, and [`Graph`], which
+//! contracts see as plain lists ([`GraphData`]: the ids of the nodes, the ends of the edges, the columns and their cells,
+//! each in the order of the file). The rooms above filter its edges and run programs on it.
+#![tactic(auto)]
+
+mod cell;
+mod graph;
+mod number;
+mod value;
+
+pub use cell::{CellRef, Cells, Column, Kind};
+pub use graph::Graph;
+pub use number::{EdgeNo, NodeNo, ViewNo};
+pub use value::Val;
