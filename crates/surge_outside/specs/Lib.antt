@@ -1,0 +1,4 @@
+pub mod Counts
+pub mod Held
+pub mod Written
+pub mod Ends
