@@ -31,6 +31,7 @@ pub failures-kept : (fails : List ℕ) (calls : ℕ) → calls ≤ last_count �
 failures-kept fails calls le = ⊎_elim below at_end (cases_lt calls last_count) where
   below : calls < last_count → failures_among fails calls ≤ failures_among fails (next_count calls)
   below lt = omega (arith, failures-next fails calls lt)
+
   at_end : last_count ≤ calls → failures_among fails calls ≤ failures_among fails (next_count calls)
   at_end ge = omega (arith, failures-last fails calls (omega arith))
 

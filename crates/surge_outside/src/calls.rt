@@ -30,7 +30,7 @@ impl Calls {
             ≤ failures_among self.new.fails self.new.count }
         ensures failed { IsTrue result
             → HasRisen (failures_among self.old.fails self.old.count)
-                (failures_among self.new.fails self.new.count) }
+            (failures_among self.new.fails self.new.count) }
     {
         match self.count.checked_add(1) {
             Some(number) => {

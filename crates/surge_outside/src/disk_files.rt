@@ -69,9 +69,7 @@ fn open_at<R: SystemFiles>(
     if name.is_empty() {
         return Ok(None);
     }
-    let Ok(owned) = String::from_str(alloc, name) else {
-        return Err(Trouble::NoMemory);
-    };
+    let owned = String::from_str(alloc, name)?;
     match fs::open(rt, name) {
         Ok(mut file) => {
             let place = skip(&mut file, at)?;
@@ -177,8 +175,8 @@ impl<R: SystemFiles + AllocGlobal> Files for DiskFiles<R> {
         ensures failed { result ≡ Err Trouble.Failed → HasRisen self.old.faults self.new.faults }
         ensures after { self.new
             ≡ record {
-                faults = faults_after_call result self.old.faults;
-                absences = absences_after_call result self.old.absences
+              faults = faults_after_call result self.old.faults;
+              absences = absences_after_call result self.old.absences;
             } }
     {
         let answer = fetch_from_disk(&self.rt, &mut self.open, name, at, buf);

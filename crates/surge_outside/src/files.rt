@@ -1,8 +1,8 @@
 //! Where bytes come from.
 
-ghost use Rattle.std.specs.Prelude.{◌≡◌, ℕ, ◌≤◌, List, Option, IfOk};
+ghost use Rattle.std.specs.Prelude.{◌≡◌, ℕ, ◌≤◌, Option, IfOk};
 ghost use Rattle.surge_outside.specs.Counts.{HasRisen};
-ghost use Rattle.surge_outside.specs.Held.{Fetches};
+ghost use Rattle.surge_outside.specs.Held.{HeldFiles, Fetches};
 
 use crate::trouble::Trouble;
 
@@ -17,8 +17,8 @@ pub enum Fetched {
 
 /// Files that are read by name. Nothing here changes them.
 pub trait Files {
-    /// The names and bytes of the files, where the object tells them.
-    ghost held: { Self → Option (List (List ℕ × List ℕ)) };
+    /// The names and bytes of the files, as pairs, where the object tells them.
+    ghost held: { Self → Option HeldFiles };
 
     /// How many fetches failed so far.
     ghost faults: { Self → ℕ };

@@ -36,3 +36,6 @@ pub use sink::{Sink, put_all};
 pub use std_sink::StdSink;
 pub use text::Text;
 pub use trouble::Trouble;
+
+#[cfg(test)]
+mod tests;

@@ -116,15 +116,15 @@ impl Files for MemoryFiles {
             → HasRisen self.old.absences self.new.absences }
         ensures failed { result ≡ Err Trouble.Failed
             → HasRisen (failures_among self.old.fails self.old.calls)
-                (failures_among self.new.fails self.new.calls) }
+            (failures_among self.new.fails self.new.calls) }
 
         ensures fails { (result ≡ Err Trouble.Failed) ↔ IsTrue (is_failing self.old.fails self.old.calls) }
         ensures memory { result ≢ Err Trouble.NoMemory }
         ensures most { IfOk result (GivesAtMost self.old.piece) }
         ensures after { self.new
             ≡ record self.old {
-                calls = next_count self.old.calls;
-                absences = absences_after_call result self.old.absences
+              calls = next_count self.old.calls;
+              absences = absences_after_call result self.old.absences;
             } }
     {
         if self.calls.next_fails() {

@@ -19,10 +19,8 @@ fn write_held(written: &mut Vec<u8>, most: usize, piece: &[u8]) -> Result<usize,
     ensures memory { IfErr result (λ trouble. trouble ≡ Trouble.NoMemory) }
 {
     let count = most.min(piece.len());
-    match written.extend_from_slice(&piece[..count]) {
-        Ok(()) => Ok(count),
-        Err(_) => Err(Trouble::NoMemory),
-    }
+    written.extend_from_slice(&piece[..count])?;
+    Ok(count)
 }
 
 /// A sink in memory, of which some writes fail: those that are listed when it is made. It tells what was written.
@@ -82,14 +80,14 @@ impl Sink for MemorySink {
             ≤ failures_among self.new.fails self.new.calls }
         ensures failed { result ≡ Err Trouble.Failed
             → HasRisen (failures_among self.old.fails self.old.calls)
-                (failures_among self.new.fails self.new.calls) }
+            (failures_among self.new.fails self.new.calls) }
 
         ensures fails { (result ≡ Err Trouble.Failed) ↔ IsTrue (is_failing self.old.fails self.old.calls) }
         ensures count { IfOk result (λ n. n ≡ min self.old.piece (length piece.now)) }
         ensures after { self.new
             ≡ record self.old {
-                written = written_after result piece.now self.old.written;
-                calls = next_count self.old.calls
+              written = written_after result piece.now self.old.written;
+              calls = next_count self.old.calls;
             } }
     {
         if self.calls.next_fails() {

@@ -1,6 +1,10 @@
 //! Why a read or a write gave nothing.
 
+ghost use Rattle.std.specs.Prelude.{◌≡◌};
+ghost use Rattle.surge_outside.specs.declared.trouble.Trouble.TheVariants as trouble;
+
 use crate::no_memory::NoMemory;
+use std::alloc::AllocError;
 use thiserror::Error;
 
 /// Why an end of the program refused a read or a write.
@@ -12,4 +16,20 @@ pub enum Trouble {
     /// A request for memory was refused.
     #[error("out of memory")]
     NoMemory,
+}
+
+impl From<NoMemory> for Trouble {
+    ghost from_gives = { λ _ made. made ≡ trouble.NoMemory };
+
+    fn from(_error: NoMemory) -> Trouble {
+        Trouble::NoMemory
+    }
+}
+
+impl From<AllocError> for Trouble {
+    ghost from_gives = { λ _ made. made ≡ trouble.NoMemory };
+
+    fn from(_error: AllocError) -> Trouble {
+        Trouble::NoMemory
+    }
 }

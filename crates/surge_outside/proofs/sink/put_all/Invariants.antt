@@ -7,7 +7,7 @@ abbrev pub invariant-loop-done : goal.invariant-loop-done
 invariant-loop-done g l = record {
   within : l.done ≤ length l.bytes;
   grown : g.O.Sink.written l.sink ≡ appended (g.O.Sink.written l.initial.sink) (take l.done l.bytes);
-  faults : g.O.Sink.faults l.initial.sink ≤ g.O.Sink.faults l.sink
+  faults : g.O.Sink.faults l.initial.sink ≤ g.O.Sink.faults l.sink;
 }
 
 abbrev pub decreases-loop-done : goal.decreases-loop-done
