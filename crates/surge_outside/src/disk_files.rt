@@ -97,7 +97,7 @@ fn continued<F: Drop>(reading: Option<Reading<F>>, name: &str, at: u64) -> Optio
     }
 }
 
-/// One fetch. The file stays open unless the fetch fails.
+/// One fetch. Where it read, the file stays open.
 fn fetch_from_disk<R: SystemFiles + AllocGlobal>(
     rt: &R,
     open: &mut Option<Reading<R::File>>,

@@ -75,7 +75,13 @@ impl Model for MemoryFiles {
 
     ghost Value = { FailingFiles };
 
-    ghost view = { λ a. record { held = a.held; piece = a.piece; fails = a.calls.fails; calls = a.calls.count; absences = a.absences } };
+    ghost view = { λ a. record {
+      held = a.held;
+      piece = a.piece;
+      fails = a.calls.fails;
+      calls = a.calls.count;
+      absences = a.absences;
+    } };
 
     ghost invariant = { λ a. 0 < a.piece };
 }
@@ -118,7 +124,8 @@ impl Files for MemoryFiles {
             → HasRisen (failures_among self.old.fails self.old.calls)
             (failures_among self.new.fails self.new.calls) }
 
-        ensures fails { (result ≡ Err Trouble.Failed) ↔ IsTrue (is_failing self.old.fails self.old.calls) }
+        ensures fails { (result ≡ Err Trouble.Failed)
+            ↔ IsTrue (is_failing self.old.fails self.old.calls) }
         ensures memory { result ≢ Err Trouble.NoMemory }
         ensures most { IfOk result (GivesAtMost self.old.piece) }
         ensures after { self.new

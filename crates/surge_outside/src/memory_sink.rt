@@ -37,7 +37,12 @@ impl Model for MemorySink {
 
     ghost Value = { FailingSink };
 
-    ghost view = { λ a. record { written = a.written.items; piece = a.piece; fails = a.calls.fails; calls = a.calls.count } };
+    ghost view = { λ a. record {
+      written = a.written.items;
+      piece = a.piece;
+      fails = a.calls.fails;
+      calls = a.calls.count;
+    } };
 
     ghost invariant = { λ a. 0 < a.piece };
 }
@@ -82,7 +87,8 @@ impl Sink for MemorySink {
             → HasRisen (failures_among self.old.fails self.old.calls)
             (failures_among self.new.fails self.new.calls) }
 
-        ensures fails { (result ≡ Err Trouble.Failed) ↔ IsTrue (is_failing self.old.fails self.old.calls) }
+        ensures fails { (result ≡ Err Trouble.Failed)
+            ↔ IsTrue (is_failing self.old.fails self.old.calls) }
         ensures count { IfOk result (λ n. n ≡ min self.old.piece (length piece.now)) }
         ensures after { self.new
             ≡ record self.old {

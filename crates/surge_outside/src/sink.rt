@@ -38,7 +38,8 @@ pub fn put_all<O: Sink>(sink: &mut O, bytes: &[u8]) -> Result<(), Trouble>
 {
     let mut done = 0;
     while done < bytes.len() {
-        done += sink.write(&bytes[done..])?;
+        let count = sink.write(&bytes[done..])?;
+        done += count;
     }
     Ok(())
 }
