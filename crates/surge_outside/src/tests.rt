@@ -1,13 +1,15 @@
 //! That calls succeed where memory is ample, and what the real system answers.
 
-ghost use Rattle.std.specs.Prelude.{◌≡◌, ◌≤◌, ⊤, Some, None, IfOk, IfSome, MatchOption, ◌⊎◌, vec_len};
+ghost use Rattle.std.specs.Prelude.{◌≡◌, ◌<◌, ◌≤◌, ⊤, Some, None, IfOk, IfSome, MatchOption, ◌⊎◌, vec_len};
 ghost use Rattle.surge_outside.specs.Counts.{HasRisen};
 ghost use Rattle.surge_outside.specs.Held.{file_at};
 
 use super::*;
 use std::alloc::{AllocError, Global};
 use std::io::{Error, ErrorKind, Write};
+use std::marker::Brand;
 use std::process::Abort;
+use std::sync::ledger::{Blank, Ledger};
 use std::test::Fail;
 use std::{fs, io, process};
 
@@ -25,6 +27,34 @@ fn two_files(alloc: Global) -> Result<List<(Text, List<u8>)>, Fail> {
     files.push(file(alloc, "empty", b"")?)?;
     files.push(file(alloc, "greeting", b"hello")?)?;
     Ok(files)
+}
+
+/// Takes two steps on a new ledger.
+fn two_steps<L: Ledger>(blank: Blank)
+    requires name { blank.name ≡ L.name }
+    requires parts { blank.parts ≡ L.parts }
+    requires some { 0 < L.parts }
+{
+    let mut steps = Steps::<L>::new(blank);
+    steps.tick();
+    steps.tick();
+}
+
+#[test]
+fn small_types_keep_what_they_are_given(rt: HostRuntime) -> Result<(), Fail> {
+    let alloc = rt.alloc();
+    let boxed = Boxed::new(alloc, 5u32)?;
+    assert_eq!(rt; (*boxed.get(), boxed.into_inner()), (5, 5));
+    let mut list = List::from_vec([1u8, 2].to_vec(alloc)?);
+    list.push(3)?;
+    assert_eq!(rt; list.len(), 3);
+    assert_eq!(rt; list.as_slice(), [1, 2, 3].as_slice());
+    list.clear();
+    assert!(rt; list.is_empty());
+    assert_eq!(rt; list.into_vec().len(), 0);
+    assert!(rt; text(alloc, "name")?.as_str() == "name");
+    two_steps::<Brand>(Blank::new(1));
+    Ok(())
 }
 
 /// The whole file if it is shorter than the limit, and else a front of it that is as long as the limit or longer.
