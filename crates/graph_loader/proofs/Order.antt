@@ -1,6 +1,6 @@
 -- Ordering nodes by id keeps their number, and names nodes alone.
 use Rattle.std.proofs.Common.{◌≡◌, ◌∙◌, ℕ, zero, suc, ◌+◌, ◌<◌, ◌≤◌, Bool, true, false, cond, List, [], ◌∷◌, length, get_or, refl, ap, arith}
-use Rattle.std.specs.Prelude.{map, nat_lt}
+use Rattle.std.specs.Prelude.{map, nat_le}
 use Rattle.std.proofs.lemmas.List.{length-map}
 use Rattle.graph_loader.specs.declared.number.NodeNo.{NodeNo}
 use Rattle.graph_loader.specs.GraphData.{node, insert_by_id, sorted_by_id, numbered, nodes_by_id}
@@ -12,7 +12,7 @@ NumbersBelow k (x ∷ xs) = (x.1 < k) × NumbersBelow k xs
 
 length-insert : (x : ℕ × ℕ) (ys : List (ℕ × ℕ)) → length (insert_by_id x ys) ≡ suc (length ys)
 length-insert x [] = refl
-length-insert x (y ∷ ys) = cases (nat_lt x.0 y.0) (length-insert x ys) where
+length-insert x (y ∷ ys) = cases (nat_le x.0 y.0) (length-insert x ys) where
   cases : (b : Bool) → length (insert_by_id x ys) ≡ suc (length ys) → length (cond b (x ∷ (y ∷ ys)) (y ∷ insert_by_id x ys)) ≡ suc (suc (length ys))
   cases true e = refl
   cases false e = ap suc e
@@ -30,7 +30,7 @@ length-nodes_by_id ids = length-map (sorted_by_id (numbered 0 ids)) (λ p. node 
 
 below-insert : (k : ℕ) (x : ℕ × ℕ) (ys : List (ℕ × ℕ)) → x.1 < k → NumbersBelow k ys → NumbersBelow k (insert_by_id x ys)
 below-insert k x [] h hs = (h, tt)
-below-insert k x (y ∷ ys) h hs = cases (nat_lt x.0 y.0) (below-insert k x ys h hs.1) where
+below-insert k x (y ∷ ys) h hs = cases (nat_le x.0 y.0) (below-insert k x ys h hs.1) where
   cases : (b : Bool) → NumbersBelow k (insert_by_id x ys) → NumbersBelow k (cond b (x ∷ (y ∷ ys)) (y ∷ insert_by_id x ys))
   cases true more = (h, hs)
   cases false more = (hs.0, more)

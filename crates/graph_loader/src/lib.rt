@@ -8,6 +8,8 @@
 mod cell;
 mod graph;
 mod number;
+mod rows;
+mod spelling;
 mod value;
 
 pub use cell::{CellRef, Cells, Column, Kind};
