@@ -43,7 +43,7 @@ id_in earlier [] = None
 id_in earlier (field ∷ []) = option_and_then (new_id earlier) (id_spelled field)
 id_in earlier (field ∷ more ∷ fields) = None
 
--- the same, of a file that may not have more nodes than the limit
+-- the same, where there are fewer than 1,000,000 earlier rows
 abbrev pub node_of : List ℕ → List (List ℕ) → Option ℕ
 node_of earlier row = if nat_lt (length earlier) 1_000_000 then id_in earlier row else None
 
@@ -84,9 +84,12 @@ edge_in ids (a ∷ b ∷ []) = None
 edge_in ids (a ∷ b ∷ c ∷ []) = edge_between (end_spelled ids a) (end_spelled ids b) (int_spelled c)
 edge_in ids (a ∷ b ∷ c ∷ more ∷ fields) = None
 
--- the same, of a file that may not have more edges than the limit
+-- the same, after this many edges: there may be 4,000,000
+abbrev pub edge_after : List ℕ → ℕ → List (List ℕ) → Option Edge
+edge_after ids count row = if nat_lt count 4_000_000 then edge_in ids row else None
+
 abbrev pub edge_of : List ℕ → List Edge → List (List ℕ) → Option Edge
-edge_of ids earlier row = if nat_lt (length earlier) 4_000_000 then edge_in ids row else None
+edge_of ids earlier row = edge_after ids (length earlier) row
 
 -- the column of the one property
 abbrev pub column_in : List (List ℕ) → Option Column

@@ -4,3 +4,4 @@ pub mod GraphInside
 pub mod Spelling
 pub mod DataFiles
 pub mod RowsLeft
+pub mod LoadSteps

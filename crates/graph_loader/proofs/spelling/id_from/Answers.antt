@@ -1,4 +1,4 @@
-use Rattle.std.proofs.Common.{◌≡◌, ◌∙◌, sym, ◌-◌, ◌<◌, ◌≤◌, length, get_or, true, arith, rules}
+use Rattle.std.proofs.Common.{◌≡◌, ◌∙◌, sym, get_or, true, arith}
 use Rattle.std.specs.Char.{is_ascii_digit}
 use Rattle.graph_loader.proofs.SpellingFacts.{fits, read_more}
 use Rattle.graph_loader.proofs.spelling.id_from.Goals as goal

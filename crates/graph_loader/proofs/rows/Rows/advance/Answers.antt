@@ -1,5 +1,5 @@
 use Rattle.graph_loader.proofs.RowFacts.{given-left, with_other_error}
-use Rattle.std.proofs.Common.{◌≡◌, IfOk, Bool}
+use Rattle.std.proofs.Common.{◌≡◌, IfOk}
 use Rattle.std.proofs.lemmas.Result.{IfOk-weaker}
 use Rattle.csv.specs.Records.{fields_of}
 use Rattle.graph_loader.specs.RowsLeft.{left_of, given}
