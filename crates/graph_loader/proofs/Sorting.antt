@@ -1,6 +1,6 @@
 -- Pairs in order: first by the first part, then by the second. A list has one order.
 use Rattle.std.proofs.Common.{◌≡◌, ◌∙◌, ◌⊎◌, inl, inr, sym, refl, ap, ℕ, zero, suc, ◌+◌, ◌<◌, ◌≤◌, Bool, true, false, ◌&&◌, ◌==◌, cond, Ordering, List, [], ◌∷◌, length, get_or, arith, add-one}
-use Rattle.std.specs.Prelude.{sum_by, nat_lt}
+use Rattle.std.specs.Prelude.{sum_by, nat_lt, nat_le}
 use Rattle.std.specs.Ordering.{nat_cmp, is_lt, ordering_then}
 use Rattle.std.specs.List.Sorted.{IsSorted, IsPermutation}
 use Rattle.std.proofs.lemmas.List.Sorted.{sum_by-IsPermutation}
@@ -35,6 +35,17 @@ less-eq-antisym x y (inr a) (inr b) = same-pair x.0 x.1 y.0 y.1 (omega arith) (o
 less-eq-refl : (x : Pair) → LessEq x x
 unfolding LessEq
 less-eq-refl x = inr (refl, omega arith)
+
+pub ahead : (x y : Pair) → nat_le x.0 y.0 ≡ true → x.1 ≤ y.1 → LessEq x y
+unfolding LessEq
+ahead x y e h = cases (nat_le y.0 x.0) refl where
+  cases : (b : Bool) → nat_le y.0 x.0 ≡ b → (x.0 < y.0) ⊎ ((x.0 ≡ y.0) × (x.1 ≤ y.1))
+  cases true f = inr (grind (arith, nat_tests), h)
+  cases false f = inl (grind (arith, nat_tests))
+
+pub behind : (x y : Pair) → nat_le x.0 y.0 ≡ false → LessEq y x
+unfolding LessEq
+behind x y e = inl (grind (arith, nat_tests))
 
 -- P of each
 abbrev pub Each : (Pair → Type 0) → List Pair → Type 0

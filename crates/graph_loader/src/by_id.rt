@@ -33,6 +33,9 @@ fn numbered_ids(alloc: Global, ids: &[u64]) -> Result<Vec<(u64, u32)>, NoMemory>
 fn numbers_of(alloc: Global, pairs: &[(u64, u32)]) -> Result<List<NodeNo>, NoMemory>
     ensures { IfOk result (λ nodes. nodes ≡ map (λ p. node p.1) pairs.now) }
 {
-    let nodes: Vec<NodeNo> = pairs.iter().map(|pair| NodeNo(pair.1)).collect(alloc)?;
-    Ok(List::from_vec(nodes))
+    let mut nodes = List::new(alloc);
+    for (_, number) in pairs {
+        nodes.push(NodeNo(*number))?;
+    }
+    Ok(nodes)
 }
