@@ -3,7 +3,8 @@ use Rattle.std.proofs.Common.{◌≡◌, ◌∙◌, inl, inr, sym, ap, refl, ℕ
 use Rattle.std.specs.Prelude.{map, nat_le}
 use Rattle.std.specs.List.Sorted.{IsPermutation, IsSorted}
 use Rattle.std.proofs.lemmas.List.{length-map, take_more, length-take}
-use Rattle.graph_loader.proofs.Sorting.{Pair, LessEq, less-eq-trans, ahead, behind, Each, each-weaker, Rising, pair_cmp, rising-sorted, total, SameSums, same-sums, one-order}
+use Rattle.graph_loader.proofs.Each.{Each, each-weaker}
+use Rattle.graph_loader.proofs.Sorting.{Pair, LessEq, less-eq-trans, ahead, behind, Rising, pair_cmp, rising-sorted, total, SameSums, same-sums, one-order}
 use Rattle.graph_loader.specs.declared.number.NodeNo.{NodeNo}
 use Rattle.graph_loader.specs.GraphData.{node, insert_by_id, sorted_by_id, numbered, nodes_by_id}
 

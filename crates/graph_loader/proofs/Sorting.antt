@@ -3,6 +3,7 @@ use Rattle.std.proofs.Common.{◌≡◌, ◌∙◌, ◌⊎◌, inl, inr, sym, re
 use Rattle.std.specs.Prelude.{sum_by, nat_lt, nat_le}
 use Rattle.std.specs.Ordering.{nat_cmp, is_lt, ordering_then}
 use Rattle.std.specs.List.Sorted.{IsSorted, IsPermutation}
+use Rattle.graph_loader.proofs.Each.{Each, each-weaker}
 use Rattle.std.proofs.lemmas.List.Sorted.{sum_by-IsPermutation}
 use Rattle.std.proofs.lemmas.List.Sums.{sum_by-cons}
 use Rattle.std.proofs.lemmas.Bool.{false≢true}
@@ -46,15 +47,6 @@ ahead x y e h = cases (nat_le y.0 x.0) refl where
 pub behind : (x y : Pair) → nat_le x.0 y.0 ≡ false → LessEq y x
 unfolding LessEq
 behind x y e = inl (grind (arith, nat_tests))
-
--- P of each
-abbrev pub Each : (Pair → Type 0) → List Pair → Type 0
-Each P [] = Unit {0}
-Each P (x ∷ xs) = P x × Each P xs
-
-pub each-weaker : (P Q : Pair → Type 0) (xs : List Pair) → ((x : Pair) → P x → Q x) → Each P xs → Each Q xs
-each-weaker P Q [] f h = tt
-each-weaker P Q (x ∷ xs) f h = (f x h.0, each-weaker P Q xs f h.1)
 
 abbrev pub Rising : List Pair → Type 0
 Rising [] = Unit {0}

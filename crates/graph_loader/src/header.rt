@@ -3,7 +3,8 @@
 ghost use Rattle.std.specs.Prelude.{◌≡◌, IfOk, option_map, MatchOption};
 ghost use Rattle.csv.specs.Records.{fields_of};
 ghost use Rattle.graph_loader.specs.DataFiles.{has_mark, is_nodes_header, column_in};
-ghost use Rattle.graph_loader.specs.Spelling.{column_spelled, kind_spelled, is_property};
+ghost use Rattle.graph_loader.specs.Spelling.{column_spelled, kind_spelled, is_property, is_printing};
+ghost use Rattle.std.specs.List.{list_all};
 
 use crate::cell::{Column, Kind};
 use crate::fields::{only_field, three_fields};
@@ -80,5 +81,12 @@ fn is_property_name(name: &str) -> bool
         && name != "id"
         && name != "src"
         && name != "dst"
-        && name.as_bytes().iter().all(|b| *b >= 32 && *b != 127)
+        && holds_no_control(name.as_bytes())
+}
+
+/// Whether no byte is below 32 or 127.
+fn holds_no_control(bytes: &[u8]) -> bool
+    ensures { result ≡ list_all is_printing bytes.now }
+{
+    bytes.iter().all(|byte| *byte >= 32 && *byte != 127)
 }
