@@ -1,5 +1,5 @@
 -- Fields by their places.
-use Rattle.std.proofs.Common.{◌≡◌, ◌≢◌, ◌<◌, sym, refl, ap, ℕ, zero, suc, List, [], ◌∷◌, length, Option, Some, None, option_map, MatchOption, arith}
+use Rattle.std.proofs.Common.{◌≡◌, ◌≢◌, ◌<◌, ℕ, zero, suc, List, [], ◌∷◌, length, Option, Some, None, option_map, MatchOption, arith}
 use Rattle.std.specs.Borrow.{Bor}
 use Rattle.csv.specs.Records.{field_at}
 

@@ -1,5 +1,5 @@
 -- What two data files spell is a graph.
-use Rattle.std.proofs.Common.{◌≡◌, ◌∙◌, sym, refl, ap, subst, ℕ, zero, suc, ◌+◌, ◌<◌, ◌≤◌, ◌^◌, Bool, true, false, ◌&&◌, List, [], ◌∷◌, ◌++◌, length, map, get_or, Option, Some, None, option_map, option_and_then, if◌then◌else◌, arith}
+use Rattle.std.proofs.Common.{◌≡◌, ◌∙◌, sym, refl, subst, ℕ, ◌+◌, ◌<◌, ◌≤◌, ◌^◌, Bool, true, false, ◌&&◌, List, [], ◌∷◌, ◌++◌, length, map, Option, Some, None, option_map, option_and_then, if◌then◌else◌, arith}
 use Rattle.std.specs.Prelude.{ℤ, nat_lt, nat_le, nat_eq, position}
 use Rattle.std.specs.List.{list_any, list_all, position_or_len}
 use Rattle.std.specs.Char.{is_ascii_digit}
@@ -8,9 +8,9 @@ use Rattle.std.proofs.lemmas.Bool.Decides.{nat_tests}
 use Rattle.graph_loader.proofs.Each.{Each, each-push, each-map, each-get}
 use Rattle.graph_loader.specs.declared.number.NodeNo.{NodeNo}
 use Rattle.graph_loader.specs.declared.cell.Column.{Column}
-use Rattle.graph_loader.specs.GraphData.{GraphData, IsGraphData, node, id_of, ends_of, cell_count, no_cells}
+use Rattle.graph_loader.specs.GraphData.{GraphData, IsGraphData, node}
 use Rattle.graph_loader.specs.Spelling.{id_spelled, int_spelled, decimal, is_number}
-use Rattle.graph_loader.specs.DataFiles.{Edge, judged, new_id, id_in, node_of, is_nodes_header, ids_in, ids_of, has_mark, records_of, end_spelled, edge_between, edge_in, edge_after, edge_of, column_in, graph_with, graph_in, graph_over}
+use Rattle.graph_loader.specs.DataFiles.{Edge, judged, new_id, id_in, node_of, is_nodes_header, ids_in, ids_of, has_mark, records_of, end_spelled, edge_between, edge_in, edge_of, column_in, graph_with, graph_in, graph_over}
 
 -- what each accepted row keeps, all of them keep
 judged-keeps : {A : Type 0} (P : List A → Type 0) (judge : List A → List (List ℕ) → Option A)
@@ -49,8 +49,8 @@ id-small field id e =
     let same : decimal field ≡ id = cc in
     below (decimal field) id small same
   where
-  below : (m n : ℕ) → nat_lt m (2 ^ 63) ≡ true → m ≡ n → n < 2 ^ 63
-  below m n t e = grind (arith, nat_tests)
+    below : (m n : ℕ) → nat_lt m (2 ^ 63) ≡ true → m ≡ n → n < 2 ^ 63
+    below m n t e = grind (arith, nat_tests)
 
 abbrev pub AreIds : List ℕ → Type 0
 AreIds ids = (length ids ≤ 1_000_000) × Each (λ id. id < 2 ^ 63) ids
@@ -62,9 +62,9 @@ row-id earlier (field ∷ []) x e =
     let fresh : x ≡ b.0 = same (list_any (nat_eq b.0) earlier) b.0 b.2 in
     rw fresh (id-small field b.0 b.1)
   where
-  same : (t : Bool) (id : ℕ) → (if t then None else Some id) ≡ Some x → x ≡ id
-  same true id e = absurd (cc)
-  same false id e = cc
+    same : (t : Bool) (id : ℕ) → (if t then None else Some id) ≡ Some x → x ≡ id
+    same true id e = absurd (cc)
+    same false id e = cc
 row-id earlier (field ∷ more ∷ fields) x e = absurd (cc)
 
 ids-step : (earlier : List ℕ) (row : List (List ℕ)) (x : ℕ) → AreIds earlier → node_of earlier row ≡ Some x → AreIds (earlier ++ x ∷ [])
@@ -72,16 +72,18 @@ ids-step earlier row x h e =
     let c = chosen (nat_lt (length earlier) 1000000) (id_in earlier row) x e in
     (few (length earlier) (length (earlier ++ x ∷ [])) c.0 (length-append earlier (x ∷ [])), each-push (λ id. id < 2 ^ 63) earlier x h.1 (row-id earlier row x c.1))
   where
-  few : (n m : ℕ) → nat_lt n 1000000 ≡ true → m ≡ n + 1 → m ≤ 1000000
-  few n m t e = grind (arith, nat_tests)
+    few : (n m : ℕ) → nat_lt n 1000000 ≡ true → m ≡ n + 1 → m ≤ 1000000
+    few n m t e = grind (arith, nat_tests)
 
 pub ids-are : (bytes ids : List ℕ) → ids_of bytes ≡ Some ids → AreIds ids
 ids-are bytes ids e = cases (has_mark bytes) e where
   listed : (t : Bool) (rows : List (List (List ℕ))) → (if t then judged node_of [] rows else None) ≡ Some ids → AreIds ids
   listed t rows e = let c = chosen t (judged node_of [] rows) ids e in judged-keeps AreIds node_of ids-step [] rows ids (omega arith, tt) c.1
+
   in-rows : (rows : List (List (List ℕ))) → ids_in rows ≡ Some ids → AreIds ids
   in-rows [] e = absurd (cc)
   in-rows (header ∷ rows) e = listed (is_nodes_header header) rows e
+
   cases : (t : Bool) → (if t then None else ids_in (records_of bytes)) ≡ Some ids → AreIds ids
   cases true e = absurd (cc)
   cases false e = in-rows (records_of bytes) e
@@ -101,8 +103,8 @@ end-within ids field n e =
     let c = chosen (nat_lt (position_or_len (nat_eq b.0) ids) (length ids)) (Some (position_or_len (nat_eq b.0) ids)) m.0 m.1 in
     rw (← m.2) (below (position_or_len (nat_eq b.0) ids) m.0 c.0 cc)
   where
-  below : (k i : ℕ) → nat_lt k (length ids) ≡ true → k ≡ i → i < length ids
-  below k i t e = grind (arith, nat_tests)
+    below : (k i : ℕ) → nat_lt k (length ids) ≡ true → k ≡ i → i < length ids
+    below k i t e = grind (arith, nat_tests)
 
 between-within : (ids : List ℕ) (a b : Option NodeNo) (cell : Option (Option ℤ)) (x : Edge) → ((n : NodeNo) → a ≡ Some n → n.0 < length ids) → ((n : NodeNo) → b ≡ Some n → n.0 < length ids)
     → edge_between a b cell ≡ Some x → Within ids x
@@ -123,8 +125,8 @@ edges-step ids earlier row x h e =
     let c = chosen (nat_lt (length earlier) 4000000) (edge_in ids row) x e in
     (few (length earlier) (length (earlier ++ x ∷ [])) c.0 (length-append earlier (x ∷ [])), each-push (Within ids) earlier x h.1 (row-within ids row x c.1))
   where
-  few : (n m : ℕ) → nat_lt n 4000000 ≡ true → m ≡ n + 1 → m ≤ 4000000
-  few n m t e = grind (arith, nat_tests)
+    few : (n m : ℕ) → nat_lt n 4000000 ≡ true → m ≡ n + 1 → m ≤ 4000000
+    few n m t e = grind (arith, nat_tests)
 
 graph-with : (ids : List ℕ) (column : Column) (edges : List Edge) → AreIds ids → AreEdges ids edges → IsGraphData (graph_with ids column edges)
 graph-with ids column edges i e =
@@ -149,9 +151,11 @@ graph-fits bytes ids g i e = cases (has_mark bytes) e where
       let b = bound (λ c. option_map (graph_with ids c) (judged (edge_of ids) [] rows)) column g e in
       let m = mapped (graph_with ids b.0) (judged (edge_of ids) [] rows) g b.2 in
       rw (← m.2) (graph-with ids b.0 m.0 i (judged-keeps (AreEdges ids) (edge_of ids) (edges-step ids) [] rows m.0 (omega arith, tt) m.1))
+
   in-rows : (rows : List (List (List ℕ))) → graph_in ids rows ≡ Some g → IsGraphData g
   in-rows [] e = absurd (cc)
   in-rows (header ∷ rows) e = under (column_in header) rows e
+
   cases : (t : Bool) → (if t then None else graph_in ids (records_of bytes)) ≡ Some g → IsGraphData g
   cases true e = absurd (cc)
   cases false e = in-rows (records_of bytes) e

@@ -1,16 +1,13 @@
 -- The last colon of a field, and the column that the field spells.
-use Rattle.std.proofs.Common.{◌≡◌, ◌≢◌, ◌∙◌, sym, refl, ap, ℕ, zero, suc, ◌<◌, Bool, true, false, List, [], ◌∷◌, ◌++◌, length, take, drop, get_or, Option, Some, None, option_and_then, if◌then◌else◌, arith, lit<}
+use Rattle.std.proofs.Common.{◌≡◌, ◌≢◌, ◌∙◌, sym, refl, ap, ℕ, suc, ◌<◌, Bool, true, false, List, [], ◌∷◌, ◌++◌, length, take, drop, get_or, Option, Some, None, option_and_then, if◌then◌else◌, arith, lit<}
 use Rattle.std.specs.Prelude.{◌==◌}
-use Rattle.std.specs.Str.{IsUtf8, is_utf8, NoCharPasses}
+use Rattle.std.specs.Str.{IsUtf8, is_utf8}
 use Rattle.std.specs.Str.Pattern.{RFindsChar, SplitsAroundMatch}
 use Rattle.std.proofs.lemmas.Str.{IsUtf8-from_is_utf8, is_utf8-from_IsUtf8}
 use Rattle.std.proofs.lemmas.Str.Pattern.{NoCharPasses-char, drop_at_char}
 use Rattle.std.proofs.lemmas.List.{take-append-drop}
-use Rattle.std.proofs.lemmas.Bool.{false≢true}
 use Rattle.std.proofs.lemmas.Bool.Decides.{nat_tests}
-use Rattle.graph_loader.specs.declared.cell.Kind.{Kind}
-use Rattle.graph_loader.specs.declared.cell.Column.{Column}
-use Rattle.graph_loader.specs.Spelling.{colon, cut_with, cut_at_last_colon, column_named, kind_spelled, column_spelled}
+use Rattle.graph_loader.specs.Spelling.{cut_at_last_colon, column_named, kind_spelled, column_spelled}
 
 no-colon : (bs : List ℕ) → ((i : ℕ) → i < length bs → get_or bs i 0 ≢ 58) → cut_at_last_colon bs ≡ None
 no-colon [] h = refl

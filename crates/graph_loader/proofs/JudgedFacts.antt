@@ -1,5 +1,5 @@
 -- Records that are judged one after the other.
-use Rattle.std.proofs.Common.{◌≡◌, ◌∙◌, sym, refl, ap, ℕ, ◌+◌, ◌<◌, ◌≤◌, Bool, true, false, List, [], ◌∷◌, ◌++◌, length, map, Option, Some, None, option_map, option_and_then, arith}
+use Rattle.std.proofs.Common.{◌≡◌, ◌∙◌, sym, refl, ap, ℕ, ◌<◌, true, false, List, [], ◌∷◌, ◌++◌, length, map, Option, Some, None, option_map, option_and_then, arith}
 use Rattle.graph_loader.specs.DataFiles.{Edge, judged, edge_of, edge_after}
 use Rattle.graph_loader.specs.RowsLeft.{given}
 use Rattle.graph_loader.specs.LoadSteps.{Takes}

@@ -1,10 +1,10 @@
 -- Ordering nodes by id keeps their number, names nodes alone, and is what any sort of the numbered ids gives.
-use Rattle.std.proofs.Common.{◌≡◌, ◌∙◌, inl, inr, sym, ap, refl, ℕ, zero, suc, ◌+◌, ◌<◌, ◌≤◌, Bool, true, false, cond, List, [], ◌∷◌, ◌++◌, length, take, get_or, arith, add-zero}
+use Rattle.std.proofs.Common.{◌≡◌, ◌∙◌, sym, ap, refl, ℕ, zero, suc, ◌+◌, ◌<◌, ◌≤◌, Bool, true, false, cond, List, [], ◌∷◌, ◌++◌, length, take, get_or, arith, add-zero}
 use Rattle.std.specs.Prelude.{map, nat_le}
 use Rattle.std.specs.List.Sorted.{IsPermutation, IsSorted}
 use Rattle.std.proofs.lemmas.List.{length-map, take_more, length-take}
 use Rattle.graph_loader.proofs.Each.{Each, each-weaker}
-use Rattle.graph_loader.proofs.Sorting.{Pair, LessEq, less-eq-trans, ahead, behind, Rising, pair_cmp, rising-sorted, total, SameSums, same-sums, one-order}
+use Rattle.graph_loader.proofs.Sorting.{Pair, LessEq, less-eq-trans, ahead, behind, Rising, pair_cmp, rising-sorted, total, same-sums, one-order}
 use Rattle.graph_loader.specs.declared.number.NodeNo.{NodeNo}
 use Rattle.graph_loader.specs.GraphData.{node, insert_by_id, sorted_by_id, numbered, nodes_by_id}
 

@@ -23,14 +23,15 @@ shorter cfg s fields field [] p = cases (ends_at_end s) where
 shorter cfg s fields field (c ∷ rest) p =
     cases (is_end (step cfg s c).1) (shorter cfg (step cfg s c).0 (fields_after (step cfg s c).1 fields field) (field_after (step cfg s c).1 c field) rest p)
   where
-  longer : Shorter rest p → Shorter (c ∷ rest) p
-  longer (inl h) = inl h
-  longer (inr h) = inr (omega arith)
-  cases : (b : Bool) → (next_record cfg (step cfg s c).0 (fields_after (step cfg s c).1 fields field) (field_after (step cfg s c).1 c field) rest ≡ Some p → Shorter rest p)
-      → (if b then Some (fields_after (step cfg s c).1 fields field, (step cfg s c).0, rest) else next_record cfg (step cfg s c).0 (fields_after (step cfg s c).1 fields field) (field_after (step cfg s c).1 c field) rest) ≡ Some p
-      → Shorter (c ∷ rest) p
-  cases true more e = let r : rest ≡ p.2 = cc in inr (rw (← r) (omega arith))
-  cases false more e = longer (more e)
+    longer : Shorter rest p → Shorter (c ∷ rest) p
+    longer (inl h) = inl h
+    longer (inr h) = inr (omega arith)
+
+    cases : (b : Bool) → (next_record cfg (step cfg s c).0 (fields_after (step cfg s c).1 fields field) (field_after (step cfg s c).1 c field) rest ≡ Some p → Shorter rest p)
+        → (if b then Some (fields_after (step cfg s c).1 fields field, (step cfg s c).0, rest) else next_record cfg (step cfg s c).0 (fields_after (step cfg s c).1 fields field) (field_after (step cfg s c).1 c field) rest) ≡ Some p
+        → Shorter (c ∷ rest) p
+    cases true more e = let r : rest ≡ p.2 = cc in inr (rw (← r) (omega arith))
+    cases false more e = longer (more e)
 
 none-left : (cfg : Config) (n : ℕ) → records_from cfg n st.StartRecord [] ≡ []
 unfolding records_from next_record
@@ -46,6 +47,7 @@ enough cfg (suc n) (suc m) s xs a b = cases (λ p h. enough cfg n m p.1 p.2 (ome
   after : (p : Read) → ((p : Read) → length p.2 < length xs → records_from cfg n p.1 p.2 ≡ records_from cfg m p.1 p.2) → Shorter xs p → records_from cfg n p.1 p.2 ≡ records_from cfg m p.1 p.2
   after p more (inl h) = rw (h.0, h.1) (none-left cfg n ∙ sym (none-left cfg m))
   after p more (inr h) = more p h
+
   cases : ((p : Read) → length p.2 < length xs → records_from cfg n p.1 p.2 ≡ records_from cfg m p.1 p.2) → (o : Option Read) → next_record cfg s [] [] xs ≡ o → records_next (records_from cfg n) o ≡ records_next (records_from cfg m) o
   cases more None e = refl
   cases more (Some p) e = ap (λ rows. p.0 ∷ rows) (after p more (shorter cfg s [] [] xs p e))
@@ -53,7 +55,7 @@ enough cfg (suc n) (suc m) s xs a b = cases (λ p h. enough cfg n m p.1 p.2 (ome
 one-more : (s : State) (xs : List ℕ) (p : Read) → next_record default_config s [] [] xs ≡ Some p
     → records_from default_config (length xs + 1) s xs ≡ p.0 ∷ records_from default_config (length p.2 + 1) p.1 p.2
 unfolding records_from Shorter
-one-more s xs p e = rw (add-one, e) (ap (λ rows. p.0 ∷ rows) (after (shorter default_config s [] [] xs p e))) where
+one-more s xs p e = rw (add-one (length xs), e) (ap (λ rows. p.0 ∷ rows) (after (shorter default_config s [] [] xs p e))) where
   after : Shorter xs p → records_from default_config (length xs) p.1 p.2 ≡ records_from default_config (length p.2 + 1) p.1 p.2
   after (inl h) = rw (h.0, h.1) (none-left default_config (length xs) ∙ sym (none-left default_config (length {A = ℕ} [] + 1)))
   after (inr h) = enough default_config (length xs) (length p.2 + 1) p.1 p.2 h (omega arith)

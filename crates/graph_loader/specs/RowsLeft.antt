@@ -1,7 +1,7 @@
 -- What a reader of a data file has still to read.
 use Rattle.std.specs.Prelude.{◌≡◌, ℕ, ◌+◌, Bool, true, false, List, [], ◌∷◌, length, Option, Some, None}
 use Rattle.std.specs.Borrow.{Bor}
-use Rattle.csv.specs.Reading.{records_from, default_config, source_of, reader_config, reader_trim, reader_state, has_failed, is_flexible, Ready}
+use Rattle.csv.specs.Reading.{records_from, default_config, source_of, reader_config, reader_trim, reader_state, has_failed, Ready}
 use Rattle.csv.specs.declared.parser.State.{State}
 use Rattle.csv.specs.declared.reader.Reader.{Reader}
 use Rattle.csv.specs.declared.reader.Trim.TheVariants as trim

@@ -10,8 +10,6 @@ use Rattle.graph_loader.specs.declared.cell.Column.{Column}
 
 -- ---- numbers
 
-
-
 -- the number that digits stand for in base ten
 abbrev pub decimal : List ℕ → ℕ
 decimal digits = number_from_digits 10 (map (λ b. b - 48) digits)

@@ -36,7 +36,11 @@ struct EdgeList {
 }
 
 /// The edges that an edges file lists between these nodes. `None` is a file that isn't of the form.
-pub(crate) fn edge_table(alloc: Global, ids: &IndexSet<u64>, bytes: &[u8]) -> Result<Option<EdgeTable>, NoMemory>
+pub(crate) fn edge_table(
+    alloc: Global,
+    ids: &IndexSet<u64>,
+    bytes: &[u8],
+) -> Result<Option<EdgeTable>, NoMemory>
     requires { length ids.now.keys ≤ 1_000_000 }
     ensures { IfOk result (λ table. option_map (graph_from ids.now.keys) table ≡ graph_over bytes.now ids.now.keys) }
 {
@@ -54,7 +58,12 @@ pub(crate) fn edge_table(alloc: Global, ids: &IndexSet<u64>, bytes: &[u8]) -> Re
 }
 
 /// The table of the records that are left, under this column.
-fn table_under(alloc: Global, ids: &IndexSet<u64>, column: Column, rows: &mut Rows<'_>) -> Result<Option<EdgeTable>, NoMemory>
+fn table_under(
+    alloc: Global,
+    ids: &IndexSet<u64>,
+    column: Column,
+    rows: &mut Rows<'_>,
+) -> Result<Option<EdgeTable>, NoMemory>
     requires few { length ids.now.keys ≤ 1_000_000 }
     requires ready { IsReady rows.old.reader }
     ensures { IfOk result (λ table. option_map (graph_from ids.now.keys) table ≡ option_map (graph_with ids.now.keys column) (judged (edge_of ids.now.keys) [] (left_of rows.old.reader))) }
@@ -74,7 +83,11 @@ fn table_under(alloc: Global, ids: &IndexSet<u64>, column: Column, rows: &mut Ro
 }
 
 /// The edges of the records that are left.
-fn listed_edges(alloc: Global, ids: &IndexSet<u64>, rows: &mut Rows<'_>) -> Result<Option<EdgeList>, NoMemory>
+fn listed_edges(
+    alloc: Global,
+    ids: &IndexSet<u64>,
+    rows: &mut Rows<'_>,
+) -> Result<Option<EdgeList>, NoMemory>
     requires few { length ids.now.keys ≤ 1_000_000 }
     requires ready { IsReady rows.old.reader }
     ensures ends { IfOk result (λ list. option_map (λ l. l.ends) list ≡ option_map (map (λ e. e.0)) (judged (edge_of ids.now.keys) [] (left_of rows.old.reader))) }

@@ -3,9 +3,9 @@
 ghost use Rattle.std.specs.Prelude.{◌≡◌, ◌<◌, ◌≤◌, ◌^◌, length, slice_get, IfOk};
 ghost use Rattle.graph_loader.specs.GraphData.{ends_of, id_of, edge_cell_of, nodes_by_id, IsGraphData};
 
+use crate::by_id::order_by_id;
 use crate::cell::{CellRef, Cells, Column};
 use crate::number::{EdgeNo, NodeNo};
-use crate::by_id::order_by_id;
 use std::alloc::Global;
 use std::marker::Model;
 use surge_outside::{List, NoMemory};
@@ -33,7 +33,8 @@ impl Model for Graph {
 }
 
 impl Graph {
-    /// The graph with these nodes, edges and cells. Its nodes are put in order in the time of a sort.
+    /// The graph with these nodes, by their ids, and these edges, by their ends, with one list of cells for each column.
+    /// It takes the time of a sort of the nodes. The one error is want of memory.
     pub fn new(
         alloc: Global,
         ids: List<u64>,

@@ -63,7 +63,11 @@ fn property_from(field: &[u8]) -> Option<(&str, Kind)>
     };
     let (name, word) = text.rsplit_once(':')?;
     let kind = kind_from(word)?;
-    if is_property_name(name) { Some((name, kind)) } else { None }
+    if is_property_name(name) {
+        Some((name, kind))
+    } else {
+        None
+    }
 }
 
 /// The kind that a word names.

@@ -25,7 +25,11 @@ pub(crate) fn id_from(field: &[u8]) -> Option<u64>
         }
         value = value * 10 + u64::from(*byte - b'0');
     }
-    if value < END_OF_IDS { Some(value) } else { None }
+    if value < END_OF_IDS {
+        Some(value)
+    } else {
+        None
+    }
 }
 
 /// The number from -(2^63 - 1) to 2^63 - 1 that a field spells by digits and maybe a minus sign.

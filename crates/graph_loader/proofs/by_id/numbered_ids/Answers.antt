@@ -1,4 +1,4 @@
-use Rattle.std.proofs.Common.{◌≡◌, ◌∙◌, sym, ap, ◌++◌, ◌∷◌, [], List, ℕ, get_or}
+use Rattle.std.proofs.Common.{◌∙◌, sym, ap, ◌++◌, ◌∷◌, [], List, ℕ, get_or}
 use Rattle.graph_loader.proofs.Order.{numbered-more}
 use Rattle.graph_loader.proofs.by_id.numbered_ids.Goals as goal
 

@@ -1,4 +1,4 @@
-use Rattle.std.proofs.Common.{◌≡◌, ◌∙◌, sym, ap, map, IfOk}
+use Rattle.std.proofs.Common.{◌≡◌, ◌∙◌, sym, ap, map}
 use Rattle.std.specs.List.Sorted.{IsPermutation}
 use Rattle.graph_loader.specs.GraphData.{node, numbered, sorted_by_id, nodes_by_id}
 use Rattle.graph_loader.proofs.Order.{sorted-is}

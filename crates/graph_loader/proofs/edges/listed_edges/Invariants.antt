@@ -1,4 +1,4 @@
-use Rattle.std.proofs.Common.{◌≡◌, [], length}
+use Rattle.std.proofs.Common.{length}
 use Rattle.graph_loader.specs.RowsLeft.{IsReady, left_of}
 use Rattle.graph_loader.proofs.JudgedFacts.{SoFar}
 use Rattle.graph_loader.proofs.edges.listed_edges.Given as goal

@@ -1,5 +1,5 @@
-use Rattle.std.proofs.Common.{◌≡◌, ◌∙◌, sym, Some, option_map}
-use Rattle.graph_loader.specs.GraphData.{GraphData, IsGraphData}
+use Rattle.std.proofs.Common.{◌≡◌, ◌∙◌, sym, Some}
+use Rattle.graph_loader.specs.GraphData.{IsGraphData}
 use Rattle.graph_loader.specs.DataFiles.{ids_of, graph_over}
 use Rattle.graph_loader.specs.LoadSteps.{graph_from}
 use Rattle.graph_loader.proofs.GraphFacts.{ids-are, graph-fits}

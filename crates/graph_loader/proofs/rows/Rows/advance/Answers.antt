@@ -11,5 +11,5 @@ returns-clause-row c =
     let b = c.read_byte_record.new.self in
     let f = fields_of c.read_byte_record.new.row in
     let row : IfOk c.read_byte_record.result (λ found. left_of a ≡ given found f (left_of b)) =
-      IfOk-weaker _ _ _ (λ found reads. given-left a b found f c.requires (reads c.requires.trim c.requires.one)) c.read_byte_record.ensures.reads in
+    IfOk-weaker _ _ _ (λ found reads. given-left a b found f c.requires (reads c.requires.trim c.requires.one)) c.read_byte_record.ensures.reads in
     with_other_error (λ found. left_of a ≡ given found f (left_of b)) _ _ _ c.map_err.ensures.cases row
