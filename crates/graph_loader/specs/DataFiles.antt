@@ -1,4 +1,5 @@
--- The graph that two data files spell. A file is cut into records, which are judged one after the other.
+-- The graph that two data files spell. A file is cut into records, which are judged one after the other. A record, or row,
+-- is the list of its fields, and a field is a list of bytes.
 use Rattle.std.specs.Prelude.{ℕ, ℤ, Bool, false, ◌&&◌, nat_lt, nat_eq, List, [], ◌∷◌, ◌++◌, length, map, position, codes, Option, Some, None, option_map, option_and_then, if◌then◌else◌}
 use Rattle.std.specs.List.{list_any}
 use Rattle.std.specs.Str.{bytes_eq}
@@ -10,10 +11,6 @@ use Rattle.graph_loader.specs.GraphData.{GraphData, node}
 use Rattle.graph_loader.specs.Spelling.{id_spelled, int_spelled, column_spelled}
 
 -- ---- records
-
--- the fields of a record
-abbrev pub Row : Type 0
-Row = List (List ℕ)
 
 -- the records of a file, as `csv` reads them: commas, double quotes, records of any width, and none set apart
 abbrev pub records_of : List ℕ → List (List (List ℕ))
