@@ -1,0 +1,8 @@
+pub mod Values
+pub mod Leaves
+pub mod Expressions
+pub mod Arcs
+pub mod Rounds
+pub mod Lone
+
+pub mod LowestGiven

@@ -9,7 +9,16 @@
 #![tactic(auto)]
 
 mod arc;
+mod arithmetic;
+mod evaluate;
+mod lone;
+mod parts;
 mod program;
+mod updater;
+mod words;
 
-pub use arc::Arc;
+pub use arc::{Arc, arcs_of};
+pub use lone::{Lone, Outcome, Rounds, lone_run};
+pub use parts::{gather, send, start};
 pub use program::{Along, Check, Cmp, Expr, Gather, Program};
+pub use updater::{Updater, eval};
