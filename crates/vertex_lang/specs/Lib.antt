@@ -6,3 +6,5 @@ pub mod Rounds
 pub mod Lone
 
 pub mod LowestGiven
+pub mod SameArc
+pub mod Mail

@@ -19,7 +19,9 @@ pub struct Arc {
 }
 
 impl Record for Arc {
-    ghost same = { ? };
+    ghost use Rattle.vertex_lang.specs.SameArc.{arc_same};
+
+    ghost same = { arc_same };
 }
 
 /// The arcs of these edges, in their order. Along `Out` an edge gives the arc from its source to its destination.

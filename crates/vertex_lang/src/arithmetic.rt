@@ -27,15 +27,19 @@ pub(crate) fn add(plus: bool, left: Val, right: Val) -> Val
     ensures { result ≡ added plus left right }
 {
     match (left, right) {
-        (Val::Num(a), Val::Num(b)) => {
-            let exact = if plus {
-                i128::from(a) + i128::from(b)
-            } else {
-                i128::from(a) - i128::from(b)
-            };
-            Val::Num(clamp_number(exact))
-        }
+        (Val::Num(a), Val::Num(b)) => Val::Num(clamp_number(exact(plus, a, b))),
         _ => Val::Nil,
+    }
+}
+
+// The sum (true) or the difference (false), as it is.
+fn exact(plus: bool, a: i64, b: i64) -> i128
+    ensures { result ≡ exact_sum plus a b }
+{
+    if plus {
+        i128::from(a) + i128::from(b)
+    } else {
+        i128::from(a) - i128::from(b)
     }
 }
 

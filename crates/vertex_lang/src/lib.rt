@@ -12,8 +12,10 @@ mod arc;
 mod arithmetic;
 mod evaluate;
 mod lone;
+mod mail;
 mod parts;
 mod program;
+mod round;
 mod updater;
 mod words;
 

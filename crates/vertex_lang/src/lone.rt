@@ -3,10 +3,13 @@
 ghost use Rattle.std.specs.Prelude.{◌≡◌, ◌<◌, ◌≤◌, ◌+◌, ◌*◌, ◌^◌, length, All, IfOk};
 ghost use Rattle.vertex_lang.specs.Leaves.{IsChecked};
 ghost use Rattle.vertex_lang.specs.Arcs.{IsArc};
-ghost use Rattle.vertex_lang.specs.Lone.{number_of, answer_of, IsAnswer, HasAllValues};
+ghost use Rattle.vertex_lang.specs.Rounds.{lone};
+ghost use Rattle.vertex_lang.specs.Lone.{number_of, answer_of, IsAnswer, OutcomeIs, HasAllValues};
 
 use crate::arc::Arc;
+use crate::mail::{count_degrees, empty_mail};
 use crate::program::Program;
+use crate::round::{advance, start_values};
 use crate::updater::Updater;
 use graph_loader::{Graph, Val};
 use std::alloc::Global;
@@ -57,6 +60,50 @@ pub fn lone_run<U: Updater>(
     ensures steps { U.calls updater.new ≤ U.calls updater.old + length graph.now.ids * number_of rounds }
     ensures falls { U.calls updater.old ≤ U.calls updater.new }
 {
-    let _ = updater;
-    Err(NoMemory)
+    match rounds {
+        Rounds::Within(limit) => run_within(alloc, program, graph, arcs, limit, updater),
+    }
+}
+
+// Runs until nothing changes, and so many rounds at most.
+fn run_within<U: Updater>(
+    alloc: Global,
+    program: &Program,
+    graph: &Graph,
+    arcs: &[Arc],
+    limit: u32,
+    updater: &mut U,
+) -> Result<Lone, NoMemory>
+    requires checked { IsChecked program.now graph.now }
+    requires arcs { All (IsArc graph.now) arcs.now }
+    requires few { length arcs.now < 2 ^ 32 }
+    ensures meaning { IfOk result (λ l. OutcomeIs (lone U.answer program.now graph.now arcs.now) limit l.outcome l.values) }
+    ensures steps { U.calls updater.new ≤ U.calls updater.old + length graph.now.ids * limit }
+    ensures falls { U.calls updater.old ≤ U.calls updater.new }
+{
+    let degrees = count_degrees(alloc, graph, arcs)?;
+    let starts = start_values(alloc, program, graph)?;
+    let mut mail = empty_mail(alloc, graph)?;
+    let mut values = Vec::from_slice(alloc, &starts)?;
+    for round in 0..limit {
+        if !advance(
+            program,
+            graph,
+            arcs,
+            &degrees,
+            &starts,
+            &mut mail,
+            &mut values,
+            updater,
+        ) {
+            return Ok(Lone {
+                outcome: Outcome::Settled(round),
+                values: List::from_vec(values),
+            });
+        }
+    }
+    Ok(Lone {
+        outcome: Outcome::Unsettled,
+        values: List::new(alloc),
+    })
 }

@@ -1,9 +1,10 @@
 //! The parts of a program: its start, its message, and what it gathers.
 
-ghost use Rattle.std.specs.Prelude.{◌≡◌, ◌<◌, ◌^◌, length, sum_by, All, IsTrue};
+ghost use Rattle.std.specs.Prelude.{◌≡◌, ◌<◌, ◌^◌, length, sum_by, All, IsTrue, fold, replicate};
 ghost use Rattle.vertex_lang.specs.Leaves.{IsChecked};
 ghost use Rattle.vertex_lang.specs.Expressions.{start_of, sent_by};
 ghost use Rattle.vertex_lang.specs.Arcs.{gathered_of, repeated, is_sent};
+ghost use Rattle.vertex_lang.specs.Values.{lesser};
 
 use crate::arithmetic::lesser_of;
 use crate::evaluate::evaluate;
@@ -73,9 +74,18 @@ fn least_of(messages: &[(Val, u64)]) -> Val
 {
     let mut least = Val::Nil;
     for (message, count) in messages {
-        if *count > 0 {
-            least = lesser_of(least, *message);
-        }
+        least = least_with(least, *message, *count);
     }
     least
+}
+
+// The least of a value and a message that is there so often.
+fn least_with(least: Val, message: Val, count: u64) -> Val
+    ensures { result ≡ fold lesser least (replicate count message) }
+{
+    if count > 0 {
+        lesser_of(least, message)
+    } else {
+        least
+    }
 }
