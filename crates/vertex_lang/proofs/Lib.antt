@@ -1,2 +1,6 @@
 pub mod Trees
 pub mod Least
+pub mod Degrees
+pub mod Deliveries
+pub mod Updates
+pub mod Settling

@@ -92,7 +92,7 @@ module _ (words : Words) where
   given_at A B f g h (Expr-F.Sum first rest) e =
       let whole = Expr-F.Sum (g first) (map (λ m. (m.0, g m.1)) rest) in
       let value = sym (value_roll whole) ∙ e in
-      subst WasGiven (sym (leaves_roll whole)) (wider (leaves_of (g first)) _ (λ x k. Contains-append_left (leaves_of (g first)) _ x k) (h first (first_lowest {A = Bool × (Words → Val)} (λ p. (p.0, p.1 words)) (value_of (g first) words) _ value)))
+      subst WasGiven (sym (leaves_roll whole)) (wider (leaves_of (g first)) _ (λ x k. Contains-append_left (leaves_of (g first)) _ x k) (h first (first_lowest {A = Bool × (Words → Val)} (λ p. (p.0, p.1 words)) (value_of (g first) words) (map (λ m. (m.0, value_of m.1)) (map (λ m. (m.0, g m.1)) rest)) value)))
   given_at A B f g h (Expr-F.Number z) e =
       let same = ap number_in (sym (value_roll (Expr-F.Number z)) ∙ e) in
       subst WasGiven (sym (leaves_roll (Expr-F.Number z))) (inl (0, lit< tt, ap (λ (n : ℤ). Leaf.number n) same))

@@ -1,13 +1,15 @@
 //! The plain run of a program.
 
-ghost use Rattle.std.specs.Prelude.{◌≡◌, ◌<◌, ◌≤◌, ◌+◌, ◌*◌, ◌^◌, length, All, IfOk};
+ghost use Rattle.std.specs.Prelude.{◌≡◌, ◌<◌, ◌≤◌, ◌+◌, ◌*◌, ◌^◌, length, map, All, IfOk};
 ghost use Rattle.vertex_lang.specs.Leaves.{IsChecked};
+ghost use Rattle.vertex_lang.specs.Expressions.{start_of};
 ghost use Rattle.vertex_lang.specs.Arcs.{IsArc};
-ghost use Rattle.vertex_lang.specs.Rounds.{lone};
+ghost use Rattle.vertex_lang.specs.Rounds.{nodes_of, lone};
+ghost use Rattle.vertex_lang.specs.Mail.{HasDegrees, RunsTo};
 ghost use Rattle.vertex_lang.specs.Lone.{number_of, answer_of, IsAnswer, OutcomeIs, HasAllValues};
 
 use crate::arc::Arc;
-use crate::mail::{count_degrees, empty_mail};
+use crate::mail::{Mail, count_degrees, empty_mail};
 use crate::program::Program;
 use crate::round::{advance, start_values};
 use crate::updater::Updater;
@@ -85,25 +87,52 @@ fn run_within<U: Updater>(
     let starts = start_values(alloc, program, graph)?;
     let mut mail = empty_mail(alloc, graph)?;
     let mut values = Vec::from_slice(alloc, &starts)?;
+    let outcome = run_rounds(
+        program,
+        graph,
+        arcs,
+        &degrees,
+        &starts,
+        limit,
+        &mut mail,
+        &mut values,
+        updater,
+    );
+    let values = match outcome {
+        Outcome::Settled(_) => List::from_vec(values),
+        Outcome::Unsettled => List::new(alloc),
+    };
+    Ok(Lone { outcome, values })
+}
+
+// Takes the values on from the start until nothing changes, and so many rounds at most.
+fn run_rounds<U: Updater>(
+    program: &Program,
+    graph: &Graph,
+    arcs: &[Arc],
+    degrees: &[u64],
+    starts: &[Val],
+    limit: u32,
+    mail: &mut [Mail],
+    values: &mut [Val],
+    updater: &mut U,
+) -> Outcome
+    requires checked { IsChecked program.now graph.now }
+    requires arcs { All (IsArc graph.now) arcs.now }
+    requires few { length arcs.now < 2 ^ 32 }
+    requires degrees { HasDegrees arcs.now degrees.now }
+    requires degrees_size { length degrees.now ≡ length graph.now.ids }
+    requires starts { starts.now ≡ map (start_of program.now graph.now) (nodes_of graph.now) }
+    requires mail_size { length mail.old ≡ length graph.now.ids }
+    requires values { values.old ≡ starts.now }
+    ensures outcome { RunsTo (lone U.answer program.now graph.now arcs.now) limit result values.new }
+    ensures steps { U.calls updater.new ≤ U.calls updater.old + length graph.now.ids * limit }
+    ensures falls { U.calls updater.old ≤ U.calls updater.new }
+{
     for round in 0..limit {
-        if !advance(
-            program,
-            graph,
-            arcs,
-            &degrees,
-            &starts,
-            &mut mail,
-            &mut values,
-            updater,
-        ) {
-            return Ok(Lone {
-                outcome: Outcome::Settled(round),
-                values: List::from_vec(values),
-            });
+        if !advance(program, graph, arcs, degrees, starts, mail, values, updater) {
+            return Outcome::Settled(round);
         }
     }
-    Ok(Lone {
-        outcome: Outcome::Unsettled,
-        values: List::new(alloc),
-    })
+    Outcome::Unsettled
 }

@@ -1,6 +1,6 @@
 //! One round of a program over all nodes.
 
-ghost use Rattle.std.specs.Prelude.{◌≡◌, ◌<◌, ◌^◌, ◌+◌, length, map, All, IfOk, EachIndex, get_or};
+ghost use Rattle.std.specs.Prelude.{◌≡◌, ◌≢◌, ◌<◌, ◌^◌, ◌+◌, length, map, All, IfOk, EachIndex, MatchBool, get_or};
 ghost use Rattle.vertex_lang.specs.Leaves.{IsChecked};
 ghost use Rattle.vertex_lang.specs.Expressions.{start_of};
 ghost use Rattle.vertex_lang.specs.Arcs.{IsArc};
@@ -86,7 +86,14 @@ fn update_all<U: Updater>(
         let id = graph.id(NodeNo(node));
         let new = updater.update(program, id, starts[place], old, got.gathered, got.count);
         values[place] = new;
-        changed = changed || new != old;
+        changed = changed || differ(new, old);
     }
     changed
+}
+
+// Whether two values differ.
+fn differ(new: Val, old: Val) -> bool
+    ensures { MatchBool result (new ≢ old) (new ≡ old) }
+{
+    new != old
 }
