@@ -1,4 +1,3 @@
-pub mod Trees
 pub mod Least
 pub mod Degrees
 pub mod Deliveries

@@ -54,10 +54,10 @@ module _ (values : ℕ → List Val) where
   unfolding first_settled
   found zero k r low high e before = absurd (omega arith)
   found (suc n) k r low high e before = elim (cases_order k r) [
-      | inl here ↦ cond-true _ _ _ (ap (λ j. same_values (values (suc j)) (values j)) here ∙ same_values_from _ _ (ap values (sym (add-one r)) ∙ e)) ∙ ap (λ j. Some j) here
-      | inr (inl less) ↦ cond-false _ _ _ (other_values _ _ (λ same. before k less (ap values (add-one k) ∙ same))) ∙ found n (suc k) r (omega arith) (omega arith) e before
-      | inr (inr more) ↦ absurd (omega arith)
-    ]
+    | inl here ↦ cond-true _ _ _ (ap (λ j. same_values (values (suc j)) (values j)) here ∙ same_values_from _ _ (ap values (sym (add-one r)) ∙ e)) ∙ ap (λ j. Some j) here
+    | inr (inl less) ↦ cond-false _ _ _ (other_values _ _ (λ same. before k less (ap values (add-one k) ∙ same))) ∙ found n (suc k) r (omega arith) (omega arith) e before
+    | inr (inr more) ↦ absurd (omega arith)
+  ]
 
   -- where each round changes something none is found
   missing : (n k : ℕ) → ((j : ℕ) → j < k + n → values (j + 1) ≢ values j) → first_settled values n k ≡ None

@@ -3,8 +3,9 @@ use Rattle.std.specs.Prelude.{◌≡◌, ℤ, Bool, true, false, IsTrue, List, [
 use Rattle.std.specs.List.{list_all}
 use Rattle.graph_loader.specs.GraphData.{GraphData}
 use Rattle.vertex_lang.specs.declared.program.Expr.{Expr}
+use Rattle.vertex_lang.specs.declared.program.Check.{Check}
 use Rattle.vertex_lang.specs.declared.program.Check.TheOpen.{Expr-F, Check-F}
-use Rattle.vertex_lang.specs.declared.program.Check.TheFolds.{fold-Expr}
+use Rattle.vertex_lang.specs.declared.program.Check.TheFolds.{fold-Expr, fold-Check}
 use Rattle.vertex_lang.specs.declared.program.Program.{Program}
 
 pub data Leaf : Type 0 where
@@ -33,6 +34,9 @@ leaves_in (Expr-F.Least a b) = a ++ b
 -- in the order of the text
 unfoldable pub leaves_of : Expr → List Leaf
 leaves_of = fold-Expr (List Leaf) (List Leaf) leaves_in_check leaves_in
+
+unfoldable pub leaves_of_check : Check → List Leaf
+leaves_of_check = fold-Check (List Leaf) (List Leaf) leaves_in_check leaves_in
 
 -- an expression of the program holds this number
 abbrev pub HoldsNumber : Program → ℤ → Type 0

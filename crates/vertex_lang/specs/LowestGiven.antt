@@ -10,11 +10,11 @@ use Rattle.vertex_lang.specs.declared.program.Expr.{Expr}
 use Rattle.vertex_lang.specs.declared.program.Check.{Check}
 use Rattle.vertex_lang.specs.declared.program.Check.TheOpen.{Expr-F, Check-F}
 use Rattle.vertex_lang.specs.declared.program.Check.TheViews.{roll-Expr}
-use Rattle.vertex_lang.specs.declared.program.Check.TheFolds.{fold-roll-Expr, fold-Check, map-Expr, ind-Expr}
+use Rattle.vertex_lang.specs.declared.program.Check.TheFolds.{fold-roll-Expr, map-Expr, ind-Expr}
 use Rattle.vertex_lang.specs.declared.program.Program.{Program}
 use Rattle.vertex_lang.specs.declared.words.Words.{Words}
 use Rattle.vertex_lang.specs.Values.{clamped, greatest, least, lowest, lowest_number, added, lesser, in_range, exact_sum}
-use Rattle.vertex_lang.specs.Leaves.{Leaf, HoldsNumber, leaves_of, leaves_in, leaves_in_check}
+use Rattle.vertex_lang.specs.Leaves.{Leaf, HoldsNumber, leaves_of, leaves_of_check, leaves_in, leaves_in_check}
 use Rattle.vertex_lang.specs.Expressions.{updated, update_words, value_of, holds_of, check_holds, expression_value}
 
 abbrev is_pos : ℤ → Bool
@@ -55,9 +55,6 @@ not_added plus (Num a) (Num b) e = not_clamped (exact_sum plus a b) (ap number_i
 first_lowest : {A : Type 0} (f : A → Bool × Val) (v : Val) (members : List A) → fold (λ sum m. added (f m).0 sum (f m).1) v members ≡ lowest → v ≡ lowest
 first_lowest f v [] e = e
 first_lowest f v (m ∷ members) e = absurd (not_added (f m).0 v (f m).1 (first_lowest f (added (f m).0 v (f m).1) members e))
-
-unfoldable leaves_of_check : Check → List Leaf
-leaves_of_check = fold-Check (List Leaf) (List Leaf) leaves_in_check leaves_in
 
 module _ (words : Words) where
   abbrev WasGiven : List Leaf → Type 0

@@ -138,6 +138,13 @@ fn deliver_one(
 {
     let tail = arc.tail.0 as usize;
     let head = arc.head.0 as usize;
-    let message = send(program, graph, arc.tail, values[tail], degrees[tail], arc.edge);
+    let message = send(
+        program,
+        graph,
+        arc.tail,
+        values[tail],
+        degrees[tail],
+        arc.edge,
+    );
     mail[head] = mail[head].with(program.gather, message);
 }

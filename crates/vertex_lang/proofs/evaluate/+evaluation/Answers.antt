@@ -8,11 +8,11 @@ use Rattle.vertex_lang.specs.declared.program.Expr.{Expr}
 use Rattle.vertex_lang.specs.declared.program.Check.{Check}
 use Rattle.vertex_lang.specs.Expressions.{value_of, holds_of}
 use Rattle.vertex_lang.specs.Values.{added, lesser, in_range}
-use Rattle.vertex_lang.proofs.Trees.{value-If, value-Sum, value-Number, value-Nil, value-Id, value-Start, value-Value, value-Gathered, value-Least, holds-Compare, holds_out}
+use Rattle.vertex_lang.specs.Trees.{value-If, value-Sum, value-Number, value-Nil, value-Id, value-Start, value-Value, value-Gathered, value-Least, holds-Compare}
 use Rattle.vertex_lang.proofs.evaluate.+evaluation.Goals as goal
 
 pub check_holds-returns : goal.check_holds-returns
-check_holds-returns t c = first_of (search (rules, holds-Compare), search (rules, holds_out))
+check_holds-returns t c = search (rules, holds-Compare)
 
 pub evaluate-returns-then-all_hold : goal.evaluate-returns-then-all_hold
 evaluate-returns-then-all_hold t c =

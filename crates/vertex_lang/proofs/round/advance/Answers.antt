@@ -31,8 +31,8 @@ returns-clause-values g c =
     let answer = g.U.Updater.answer in
     let n = length graph.ids in
     c.update_all.ensures.values ∙ same_over_nodes (next_from answer p graph starts mail old) (next_of answer p graph arcs old) n (λ k low.
-      let ms = received p graph arcs old k in
-      let within : k < length mail = omega (arith, c.deliver.auto.mail, c.requires.mail_size) in
-      let start : value_at starts k ≡ start_of p graph k = ap (λ (vs : List Val). value_at vs k) c.requires.starts ∙ get_or-map-range_with_len (start_of p graph) 0 n k k Nil low (omega arith) in
-      ap (λ (m : Mail). answer p (id_of graph k) (value_at starts k) (value_at old k) m.gathered m.count) (c.deliver.ensures k within)
-      ∙ ap (λ (v : Val). answer p (id_of graph k) v (value_at old k) (gathered_of p.gather ms) (length ms)) start)
+    let ms = received p graph arcs old k in
+    let within : k < length mail = omega (arith, c.deliver.auto.mail, c.requires.mail_size) in
+    let start : value_at starts k ≡ start_of p graph k = ap (λ (vs : List Val). value_at vs k) c.requires.starts ∙ get_or-map-range_with_len (start_of p graph) 0 n k k Nil low (omega arith) in
+    ap (λ (m : Mail). answer p (id_of graph k) (value_at starts k) (value_at old k) m.gathered m.count) (c.deliver.ensures k within)
+    ∙ ap (λ (v : Val). answer p (id_of graph k) v (value_at old k) (gathered_of p.gather ms) (length ms)) start)

@@ -19,9 +19,9 @@ loop-node-preserved g c =
     let got = get_or c.args.mail.now n no_mail in
     let lt : n < length now = omega arith in
     let next : c.update-new.result ≡ f n =
-        c.update-new.ensures.answer
-        ∙ ap (λ i. g.U.Updater.answer c.args.program.now i (value_at c.args.starts.now n) (value_at now n) got.gathered got.count) c.id-id.ensures.value
-        ∙ ap (λ (v : Val). g.U.Updater.answer c.args.program.now (id_of c.args.graph.now n) (value_at c.args.starts.now n) v got.gathered got.count) (u.left n (omega arith)) in
+    c.update-new.ensures.answer
+    ∙ ap (λ i. g.U.Updater.answer c.args.program.now i (value_at c.args.starts.now n) (value_at now n) got.gathered got.count) c.id-id.ensures.value
+    ∙ ap (λ (v : Val). g.U.Updater.answer c.args.program.now (id_of c.args.graph.now n) (value_at c.args.starts.now n) v got.gathered got.count) (u.left n (omega arith)) in
     record {
       updated = elim c.if-changed.branch [
         | then-changed w ↦ update_after_change f old now n c.update-new.result lt next c.loop-node.changed c.if-changed.changed u w.if-changed.true w.changed-is
