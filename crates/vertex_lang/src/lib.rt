@@ -24,3 +24,6 @@ pub use lone::{Lone, Outcome, Rounds, lone_run};
 pub use parts::{gather, send, start};
 pub use program::{Along, Check, Cmp, Expr, Gather, Program};
 pub use updater::{Updater, eval};
+
+#[cfg(test)]
+mod tests;
