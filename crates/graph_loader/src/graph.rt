@@ -58,6 +58,7 @@ impl Graph {
     /// How many nodes there are, at most 1,000,000.
     pub fn node_count(&self) -> u32
         ensures count { result ≡ length self.now.ids }
+        ensures order { result ≡ length (nodes_by_id self.now.ids) }
         ensures limit { result ≤ 1_000_000 }
     {
         self.ids.len() as u32
