@@ -24,7 +24,7 @@ returns-then-not-advance-clause-outcome g c =
     let r = c.loop-round.round in
     let later : c.advance.new.values ≡ lone answer p graph arcs (r + 1) = c.advance.ensures.values ∙ ap (next answer p graph arcs) c.loop-round.invariant.values ∙ sym (lone_next answer p graph arcs r) in
     let unchanged : c.advance.new.values ≡ lone answer p graph arcs r = c.if-not-advance.ensures.changed ∙ c.loop-round.invariant.values in
-    (record { within = c.loop-round-test.true; settled = sym later ∙ unchanged; first = c.loop-round.invariant.changed }, unchanged)
+    (record { within = omega (arith, c.loop-round-test.true); settled = sym later ∙ unchanged; first = c.loop-round.invariant.changed }, unchanged)
 
 pub loop-round-preserved : goal.loop-round-preserved
 loop-round-preserved g c =
