@@ -1,5 +1,4 @@
-use Rattle.std.proofs.Common.{rules, ◌≡◌, ◌≢◌, ◌∙◌, ◌<◌, ◌≤◌, ◌+◌, ◌*◌, ℕ, List, length, ap, sym, below_more, arith}
-use Rattle.std.proofs.Math.Nat.{mul-le-mul_left}
+use Rattle.std.proofs.Common.{◌≡◌, ◌∙◌, ◌+◌, List, length, ap, sym, below_more, arith}
 use Rattle.graph_loader.specs.declared.value.Val.{Val}
 use Rattle.vertex_lang.specs.Rounds.{lone, next}
 use Rattle.vertex_lang.proofs.Settling.{lone_starts, lone_next, length-lone}
