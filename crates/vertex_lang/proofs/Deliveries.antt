@@ -1,9 +1,9 @@
 -- Putting into the mail what the arcs bring, one arc after the other.
-use Rattle.std.proofs.Common.{◌≡◌, ◌≢◌, ◌∙◌, ◌+◌, ◌<◌, ◌≤◌, ◌++◌, ◌∷◌, [], ℕ, ℤ, Bool, true, false, cond, List, length, get_or, set, take, map, filter, fold, sym, ap, refl, inl, inr, arith}
+use Rattle.std.proofs.Common.{◌≡◌, ◌∙◌, ◌<◌, ◌≤◌, ◌++◌, ◌∷◌, [], ℕ, Bool, true, false, cond, List, length, get_or, set, map, filter, sym, ap, inl, inr, arith}
 use Rattle.std.specs.Prelude.{◌==◌}
 use Rattle.std.proofs.lemmas.Bool.{cases_eq, eq-eqb, ne_eqb}
 use Rattle.std.proofs.lemmas.Grind.{get_or-set_at}
-use Rattle.std.proofs.lemmas.List.{append-nil, get_or-set_other, length-set, length-take, length-append, length-map, map-append, take_more}
+use Rattle.std.proofs.lemmas.List.{append-nil, get_or-set_other, length-set, length-append, length-map, map-append}
 use Rattle.std.proofs.lemmas.List.Elements.{filter-append}
 use Rattle.std.proofs.lemmas.List.Sums.{fold-append, length-filter, count_by-le-length}
 use Rattle.graph_loader.specs.declared.value.Val.{Val}

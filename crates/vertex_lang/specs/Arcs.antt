@@ -1,5 +1,5 @@
 -- The arcs of a view, and what they bring.
-use Rattle.std.specs.Prelude.{ℕ, ◌<◌, ◌≡◌, ◌==◌, Bool, true, false, List, [], ◌∷◌, length, map, filter, fold, flat_map, count_by, replicate}
+use Rattle.std.specs.Prelude.{ℕ, ◌<◌, ◌==◌, Bool, true, false, List, [], ◌∷◌, length, map, filter, fold, flat_map, count_by, replicate}
 use Rattle.graph_loader.specs.declared.number.EdgeNo.{EdgeNo}
 use Rattle.graph_loader.specs.declared.value.Val.{Val}
 use Rattle.graph_loader.specs.declared.value.Val.TheVariants.{Nil, Num}

@@ -1,5 +1,5 @@
 -- The value of an expression, by cases on its tree.
-use Rattle.std.specs.Prelude.{◌≡◌, ℕ, pos, Bool, if◌then◌else◌, List, fold}
+use Rattle.std.specs.Prelude.{ℕ, pos, Bool, if◌then◌else◌, fold}
 use Rattle.std.specs.List.{list_all}
 use Rattle.graph_loader.specs.declared.value.Val.{Val}
 use Rattle.graph_loader.specs.declared.value.Val.TheVariants.{Nil, Num}

@@ -1,5 +1,5 @@
 -- An updater that computes the update expression makes the number -(2^63) only where it was handed it.
-use Rattle.std.specs.Prelude.{◌≡◌, ◌⊎◌, ◌++◌, ℕ, ℤ, pos, negsuc, Bool, true, false, cond, int_lt, List, [], ◌∷◌, map, fold, flat_map, Contains, refl}
+use Rattle.std.specs.Prelude.{◌≡◌, ◌⊎◌, ◌++◌, ℕ, ℤ, pos, negsuc, Bool, true, false, cond, int_lt, List, [], ◌∷◌, map, fold, flat_map, Contains}
 use Rattle.std.specs.List.{list_all}
 use Rattle.std.proofs.Common.{inl, inr, sym, ap, subst, ◌∙◌, lit<}
 use Rattle.std.proofs.lemmas.Bool.{cond_both, false≢true, true≢false}
@@ -8,12 +8,12 @@ use Rattle.graph_loader.specs.declared.value.Val.{Val}
 use Rattle.graph_loader.specs.declared.value.Val.TheVariants.{Nil, Num}
 use Rattle.vertex_lang.specs.declared.program.Expr.{Expr}
 use Rattle.vertex_lang.specs.declared.program.Check.{Check}
-use Rattle.vertex_lang.specs.declared.program.Check.TheOpen.{Expr-F, Check-F}
+use Rattle.vertex_lang.specs.declared.program.Check.TheOpen.{Expr-F}
 use Rattle.vertex_lang.specs.declared.program.Check.TheViews.{roll-Expr}
 use Rattle.vertex_lang.specs.declared.program.Check.TheFolds.{fold-roll-Expr, map-Expr, ind-Expr}
 use Rattle.vertex_lang.specs.declared.program.Program.{Program}
 use Rattle.vertex_lang.specs.declared.words.Words.{Words}
-use Rattle.vertex_lang.specs.Values.{clamped, greatest, least, lowest, lowest_number, added, lesser, in_range, exact_sum}
+use Rattle.vertex_lang.specs.Values.{clamped, greatest, least, lowest, lowest_number, added, in_range, exact_sum}
 use Rattle.vertex_lang.specs.Leaves.{Leaf, HoldsNumber, leaves_of, leaves_of_check, leaves_in, leaves_in_check}
 use Rattle.vertex_lang.specs.Expressions.{updated, update_words, value_of, holds_of, check_holds, expression_value}
 

@@ -1,5 +1,5 @@
 -- The plain run of a program: synchronous rounds over all nodes. Values stand by node number.
-use Rattle.std.specs.Prelude.{ℕ, zero, suc, ◌+◌, List, map, length, get_or}
+use Rattle.std.specs.Prelude.{ℕ, zero, suc, List, map, length, get_or}
 use Rattle.std.specs.List.{range_with_len}
 use Rattle.graph_loader.specs.declared.value.Val.{Val}
 use Rattle.graph_loader.specs.declared.value.Val.TheVariants.{Nil}

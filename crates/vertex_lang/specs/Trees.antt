@@ -1,5 +1,5 @@
 -- The equations of the value of an expression, and of the numbers and words that it holds, one for each kind of tree.
-use Rattle.std.proofs.Common.{◌≡◌, ◌∙◌, ◌++◌, ◌∷◌, [], ℕ, ℤ, pos, Bool, cond, List, map, fold, flat_map, ap, sym}
+use Rattle.std.proofs.Common.{◌≡◌, ◌∙◌, ◌++◌, ◌∷◌, [], ℤ, pos, Bool, cond, List, fold, flat_map, ap, sym}
 use Rattle.std.specs.List.{list_all}
 use Rattle.std.proofs.lemmas.List.Folds.{list_all-map, fold-map, flat_map-map}
 use Rattle.graph_loader.specs.declared.value.Val.{Val}
@@ -11,8 +11,8 @@ use Rattle.vertex_lang.specs.declared.program.Check.{Check}
 use Rattle.vertex_lang.specs.declared.program.Check.TheVariants as check
 use Rattle.vertex_lang.specs.declared.program.Check.TheVariants.{rolls-Compare}
 use Rattle.vertex_lang.specs.declared.program.Check.TheOpen.{Expr-F, Check-F}
-use Rattle.vertex_lang.specs.declared.program.Check.TheViews.{roll-Expr, roll-Check}
-use Rattle.vertex_lang.specs.declared.program.Check.TheFolds.{fold-roll-Expr, fold-roll-Check, map-Expr, map-Check}
+use Rattle.vertex_lang.specs.declared.program.Check.TheViews.{roll-Expr}
+use Rattle.vertex_lang.specs.declared.program.Check.TheFolds.{fold-roll-Expr, fold-roll-Check, map-Expr}
 use Rattle.vertex_lang.specs.declared.program.Cmp.{Cmp}
 use Rattle.vertex_lang.specs.declared.words.Words.{Words}
 use Rattle.vertex_lang.specs.Values.{added, lesser, in_range, compares}

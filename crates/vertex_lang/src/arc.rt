@@ -25,7 +25,7 @@ impl Record for Arc {
 }
 
 /// The arcs of these edges, in their order. Along `Out` an edge gives the arc from its source to its destination.
-/// Parallel edges each give their own.
+/// Parallel edges each give their own. The error is want of memory.
 pub fn arcs_of(
     alloc: Global,
     graph: &Graph,

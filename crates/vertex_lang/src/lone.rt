@@ -42,7 +42,8 @@ pub struct Lone {
 
 /// Runs a program alone, round by round, over these arcs. All nodes change together, from their start values on. The
 /// run stops where nothing changes, so it costs the arcs and nodes once for each round until then. It calls the updater
-/// at most once for each node and round.
+/// at most once for each node and round. The error is want of memory, before the first round. (Rounds over all vertices:
+/// Malewicz et al. 2010; as the plain run that a view collection is compared with: Sahu and Salihoglu 2021.)
 pub fn lone_run<U: Updater>(
     alloc: Global,
     program: &Program,

@@ -1,4 +1,4 @@
-use Rattle.std.proofs.Common.{◌≡◌, ◌≤◌, take, length, All}
+use Rattle.std.proofs.Common.{◌≡◌, take, length, All}
 use Rattle.vertex_lang.specs.Arcs.{arcs_between, IsArc}
 use Rattle.vertex_lang.proofs.arc.arcs_of.Given as goal
 

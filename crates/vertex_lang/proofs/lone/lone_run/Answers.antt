@@ -1,6 +1,6 @@
-use Rattle.std.proofs.Common.{rules, ◌≡◌, IfOk}
+use Rattle.std.proofs.Common.{rules, IfOk}
 use Rattle.std.proofs.lemmas.Result.{IfOk-weaker}
-use Rattle.vertex_lang.specs.Lone.{IsAnswer, answer_of, HasAllValues}
+use Rattle.vertex_lang.specs.Lone.{IsAnswer}
 use Rattle.vertex_lang.proofs.Settling.{answer_is, answer_size}
 use Rattle.vertex_lang.proofs.lone.lone_run.Goals as goal
 

@@ -1,5 +1,4 @@
-use Rattle.std.proofs.Common.{rules, ◌≡◌, ◌≢◌, ◌∙◌, ◌<◌, ◌≤◌, ◌+◌, ◌*◌, ℕ, List, length, ap, sym, below_more, arith}
-use Rattle.std.proofs.Math.Nat.{mul-le-mul_left}
+use Rattle.std.proofs.Common.{◌≡◌, ◌∙◌, ◌+◌, List, length, ap, sym, below_more, arith}
 use Rattle.graph_loader.specs.declared.value.Val.{Val}
 use Rattle.vertex_lang.specs.Rounds.{lone, next}
 use Rattle.vertex_lang.proofs.Settling.{lone_starts, lone_next, length-lone}
@@ -24,7 +23,7 @@ returns-then-not-advance-clause-outcome g c =
     let r = c.loop-round.round in
     let later : c.advance.new.values ≡ lone answer p graph arcs (r + 1) = c.advance.ensures.values ∙ ap (next answer p graph arcs) c.loop-round.invariant.values ∙ sym (lone_next answer p graph arcs r) in
     let unchanged : c.advance.new.values ≡ lone answer p graph arcs r = c.if-not-advance.ensures.changed ∙ c.loop-round.invariant.values in
-    (record { within = c.loop-round-test.true; settled = sym later ∙ unchanged; first = c.loop-round.invariant.changed }, unchanged)
+    (record { within = omega (arith, c.loop-round-test.true); settled = sym later ∙ unchanged; first = c.loop-round.invariant.changed }, unchanged)
 
 pub loop-round-preserved : goal.loop-round-preserved
 loop-round-preserved g c =

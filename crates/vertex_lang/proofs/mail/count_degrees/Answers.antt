@@ -1,7 +1,6 @@
-use Rattle.std.proofs.Common.{rules, ◌≡◌, ◌<◌, ◌^◌, ℕ, length, get_or, take, length-set, false, arith}
+use Rattle.std.proofs.Common.{◌<◌, ◌^◌, ℕ, length, get_or, length-set, false, arith}
 use Rattle.std.proofs.lemmas.List.{get_or_read}
 use Rattle.vertex_lang.specs.declared.arc.Arc.{Arc}
-use Rattle.vertex_lang.specs.Arcs.{outdeg}
 use Rattle.vertex_lang.proofs.Degrees.{degrees_step, outdeg_small}
 use Rattle.vertex_lang.proofs.mail.count_degrees.Goals as goal
 

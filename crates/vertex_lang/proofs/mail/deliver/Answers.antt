@@ -1,10 +1,8 @@
-use Rattle.std.proofs.Common.{rules, ◌≡◌, ◌∙◌, ◌<◌, ◌≤◌, ◌++◌, ◌∷◌, [], ℕ, List, false, length, get_or, take, set, ap, sym, subst, arith}
+use Rattle.std.proofs.Common.{◌≡◌, ◌∙◌, ◌<◌, ◌++◌, ◌∷◌, [], List, false, length, get_or, take, set, ap, sym, subst, arith}
 use Rattle.std.proofs.lemmas.List.{take_more, length-take}
-use Rattle.graph_loader.specs.declared.value.Val.{Val}
 use Rattle.vertex_lang.specs.declared.arc.Arc.{Arc}
 use Rattle.vertex_lang.specs.declared.mail.Mail.{Mail}
 use Rattle.vertex_lang.specs.Expressions.{sent_by}
-use Rattle.vertex_lang.specs.Arcs.{messages}
 use Rattle.vertex_lang.specs.Rounds.{carried, value_at}
 use Rattle.vertex_lang.specs.Mail.{HasMail, mail_with, no_mail}
 use Rattle.vertex_lang.proofs.Deliveries.{mail_step, messages_small}

@@ -1,5 +1,4 @@
 use Rattle.std.proofs.Common.{◌≡◌, ◌∙◌, ℕ, ap, sym, fold, replicate, arith}
-use Rattle.graph_loader.specs.declared.value.Val.{Val}
 use Rattle.vertex_lang.specs.Values.{lesser}
 use Rattle.vertex_lang.proofs.Least.{lesser_repeated}
 use Rattle.vertex_lang.proofs.parts.least_with.Goals as goal

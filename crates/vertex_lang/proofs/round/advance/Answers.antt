@@ -1,4 +1,4 @@
-use Rattle.std.proofs.Common.{rules, ◌≡◌, ◌∙◌, ◌<◌, ℕ, List, ap, sym, length, map, get_or, arith}
+use Rattle.std.proofs.Common.{◌≡◌, ◌∙◌, ◌<◌, List, ap, length, arith}
 use Rattle.std.proofs.lemmas.List.FromFn.{length-map-range_with_len, get_or-map-range_with_len}
 use Rattle.graph_loader.specs.declared.value.Val.{Val}
 use Rattle.graph_loader.specs.declared.value.Val.TheVariants.{Nil}
@@ -7,7 +7,7 @@ use Rattle.vertex_lang.specs.declared.mail.Mail.{Mail}
 use Rattle.vertex_lang.specs.Expressions.{start_of}
 use Rattle.vertex_lang.specs.Arcs.{gathered_of}
 use Rattle.vertex_lang.specs.Rounds.{value_at, next, next_of, received, carried}
-use Rattle.vertex_lang.specs.Mail.{next_from, no_mail}
+use Rattle.vertex_lang.specs.Mail.{next_from}
 use Rattle.vertex_lang.proofs.Deliveries.{messages_small}
 use Rattle.vertex_lang.proofs.Updates.{same_over_nodes}
 use Rattle.vertex_lang.proofs.round.advance.Goals as goal
