@@ -2,3 +2,4 @@ pub mod Tokens
 pub mod Grammar
 pub mod Form
 pub mod Script
+pub mod Lexing

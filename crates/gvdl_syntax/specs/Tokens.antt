@@ -113,17 +113,17 @@ goes_on (t.Compare cmp.Gt) b = b == 61
 goes_on (t.Compare c) b = false
 goes_on t.End b = false
 
--- the token goes no further: each is the longest that fits
-abbrev pub Ends : Token → List ℕ → Type 0
-Ends token [] = Unit {0}
-Ends token (b ∷ bs) = goes_on token b ≡ false
+-- no byte that passes the test comes first
+abbrev pub Stops : (ℕ → Bool) → List ℕ → Type 0
+Stops test [] = Unit {0}
+Stops test (b ∷ bs) = test b ≡ false
 
--- the bytes are the spelling of the token, as long as it can be, and the rest
+-- The bytes are the spelling of the token and the rest, and the token is as long as it can be.
 pub record IsAtFront (token : Token) (bytes rest : List ℕ) : Type 0 where
   pub spelling : List ℕ
   pub split : bytes ≡ spelling ++ rest
   pub spells : Spells token spelling
-  pub longest : Ends token rest
+  pub longest : Stops (goes_on token) rest
 
 -- the bytes are blanks, a token and the rest
 pub record IsFirst (token : Token) (bytes rest : List ℕ) : Type 0 where

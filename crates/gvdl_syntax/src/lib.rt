@@ -7,7 +7,11 @@
 //! promise to the rooms above: the tree of a text is found exactly where there is one, and there is never another.
 #![tactic(auto)]
 
+mod characters;
+mod fault;
+mod lexer;
 mod token;
 mod tree;
 
+pub use fault::ParseFault;
 pub use tree::{Arg, Call, Cmp, Item, ItemBody, Operand, PredTree, Script, Statement};

@@ -54,3 +54,10 @@ pub enum Token {
     /// What comes after the last token. It stands in no list of tokens.
     End,
 }
+
+/// A token, and how many bytes spell it.
+#[derive(Debug, Drop)]
+pub struct Lexeme {
+    pub token: Token,
+    pub len: usize,
+}
