@@ -35,7 +35,7 @@ pub digit_no_quote : (b : ℕ) → is_digit b ≡ true → b ≢ 39
 digit_no_quote b h e = let no_way : false ≡ true = ap is_digit (sym e) ∙ h in absurd cc
 
 -- a name goes on with what may begin one
-in_name_too : (x y z : Bool) → x ≡ true → (x || y || z) ≡ true
+pub in_name_too : (x y z : Bool) → x ≡ true → (x || y || z) ≡ true
 in_name_too true y z e = refl
 in_name_too false y z e = absurd cc
 

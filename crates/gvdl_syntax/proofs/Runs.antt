@@ -21,7 +21,7 @@ pub if_false : {A : Type 0} (x : Bool) (a b : A) → x ≡ false → (if x then 
 if_false true a b e = absurd cc
 if_false false a b e = refl
 
-one_more : (n : ℕ) → 1 + n ≡ suc n
+pub one_more : (n : ℕ) → 1 + n ≡ suc n
 one_more n = omega arith
 
 passing : (x : Bool) (p : ℕ → Bool) (b : ℕ) (bs : List ℕ) (n : ℕ) → p b ≡ x → list_all p (take n bs) ≡ true → list_all p (take (cond x (1 + n) 0) (b ∷ bs)) ≡ true

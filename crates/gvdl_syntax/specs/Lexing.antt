@@ -1,5 +1,5 @@
 -- What reading tokens from bytes answers.
-use Rattle.std.specs.Prelude.{◌≡◌, ℕ, ◌≤◌, Bool, true, false, not, ◌==◌, if◌then◌else◌, Option, Some, None, List, [], ◌∷◌, ◌++◌, length, drop, Result, Ok, Err}
+use Rattle.std.specs.Prelude.{◌≡◌, ℕ, ◌≤◌, Bool, true, false, not, ◌==◌, List, [], ◌∷◌, ◌++◌, length, drop, Result, Ok, Err}
 use Rattle.gvdl_syntax.specs.declared.tree.Cmp.{Cmp}
 use Rattle.gvdl_syntax.specs.declared.tree.Cmp.TheVariants as cmp
 use Rattle.gvdl_syntax.specs.declared.token.Token.{Token}
@@ -23,10 +23,14 @@ abbrev pub closes : List ℕ → Bool
 closes [] = false
 closes (b ∷ bs) = not (is_next 39 bs)
 
--- the comparison that begins with this byte, by whether = follows
-abbrev pub comparison_of : ℕ → Bool → Option Cmp
-comparison_of b true = if b == 61 then Some cmp.Eq else (if b == 33 then Some cmp.Ne else (if b == 60 then Some cmp.Le else (if b == 62 then Some cmp.Ge else None)))
-comparison_of b false = if b == 61 then Some cmp.Eq else (if b == 60 then Some cmp.Lt else (if b == 62 then Some cmp.Gt else None))
+-- the comparison begins with this byte, and = follows or does not
+abbrev pub Compares : Cmp → ℕ → Bool → Type 0
+Compares cmp.Eq b followed = b ≡ 61
+Compares cmp.Ne b followed = (b ≡ 33) × (followed ≡ true)
+Compares cmp.Lt b followed = (b ≡ 60) × (followed ≡ false)
+Compares cmp.Le b followed = (b ≡ 60) × (followed ≡ true)
+Compares cmp.Gt b followed = (b ≡ 62) × (followed ≡ false)
+Compares cmp.Ge b followed = (b ≡ 62) × (followed ≡ true)
 
 -- so many bytes spell the token at the front
 pub record IsLexeme (bytes : List ℕ) (token : Token) (n : ℕ) : Type 0 where

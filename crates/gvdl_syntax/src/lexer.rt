@@ -1,12 +1,13 @@
 //! Cuts a text into tokens.
 
-ghost use Rattle.std.specs.Prelude.{◌≡◌, ◌≢◌, [], ◌∷◌, ◌^◌, ◌<◌, ◌≤◌, IfOk, IfSome, IfNone, drop, length, true, false};
+ghost use Rattle.std.specs.Prelude.{◌≡◌, ◌≢◌, [], ◌∷◌, ◌^◌, ◌<◌, ◌≤◌, IfOk, IfSome, IfNone, drop, take_while, length, true, false};
 ghost use Rattle.std.specs.List.{list_all, prefix_len};
 ghost use Rattle.std.specs.Str.{IsUtf8};
 ghost use Rattle.std.specs.Str.Parse.{digits_value};
-ghost use Rattle.gvdl_syntax.specs.Tokens.{is_blank, is_digit, begins_name, sign_spelling, cmp_spelling};
-ghost use Rattle.gvdl_syntax.specs.Lexing.{Starts, closes, is_next, comparison_of, ReadsToken, AreTheTokens, HasNoTokens};
+ghost use Rattle.gvdl_syntax.specs.Tokens.{is_blank, is_digit, begins_name, in_name, in_string, sign_spelling, cmp_spelling};
+ghost use Rattle.gvdl_syntax.specs.Lexing.{Starts, closes, is_next, Compares, ReadsToken, AreTheTokens, HasNoTokens};
 ghost use Rattle.gvdl_syntax.specs.declared.token.Sign.{Sign};
+ghost use Rattle.gvdl_syntax.specs.declared.tree.Cmp.{Cmp};
 
 use crate::characters::{begins_name, in_name, in_string, is_blank, is_digit, is_reserved, word_of};
 use crate::fault::ParseFault;
@@ -40,9 +41,15 @@ pub fn lex(alloc: Global, text: &[u8]) -> Result<Vec<Token>, ParseFault>
 fn behind_blanks(bytes: &[u8]) -> &[u8]
     ensures { result.now ≡ drop (prefix_len is_blank bytes.now) bytes.now }
 {
-    let len = bytes.iter().take_while(|b| is_blank(**b)).count();
+    let len = blank_len(bytes);
     let (_, behind) = bytes.split_at(len);
     behind
+}
+
+fn blank_len(bytes: &[u8]) -> usize
+    ensures { result ≡ length (take_while is_blank bytes.now) }
+{
+    bytes.iter().take_while(|b| is_blank(**b)).count()
 }
 
 // The token at the front.
@@ -73,7 +80,7 @@ fn string(alloc: Global, bytes: &[u8]) -> Result<Lexeme, ParseFault>
     requires utf8 { IsUtf8 (39 ∷ bytes.now) }
     ensures { ReadsToken (39 ∷ bytes.now) result }
 {
-    let len = bytes.iter().take_while(|b| in_string(**b)).count();
+    let len = string_len(bytes);
     let (content, behind) = bytes.split_at(len);
     if !closes(behind) {
         return Err(ParseFault::NotBuilt);
@@ -83,6 +90,12 @@ fn string(alloc: Global, bytes: &[u8]) -> Result<Lexeme, ParseFault>
         token,
         len: len + 2,
     })
+}
+
+fn string_len(bytes: &[u8]) -> usize
+    ensures { result ≡ length (take_while in_string bytes.now) }
+{
+    bytes.iter().take_while(|b| in_string(**b)).count()
 }
 
 // Whether the bytes are a quote, and what follows it is not one more.
@@ -110,7 +123,7 @@ fn word_or_name(alloc: Global, bytes: &[u8]) -> Result<Lexeme, ParseFault>
     requires begins { Starts begins_name bytes.now }
     ensures { ReadsToken bytes.now result }
 {
-    let len = bytes.iter().take_while(|b| in_name(**b)).count();
+    let len = name_len(bytes);
     let (run, _) = bytes.split_at(len);
     if let Some(word) = word_of(run) {
         return Ok(Lexeme {
@@ -123,6 +136,12 @@ fn word_or_name(alloc: Global, bytes: &[u8]) -> Result<Lexeme, ParseFault>
     }
     let token = Token::Name(text_of(alloc, run)?);
     Ok(Lexeme { token, len })
+}
+
+fn name_len(bytes: &[u8]) -> usize
+    ensures { result ≡ length (take_while in_name bytes.now) }
+{
+    bytes.iter().take_while(|b| in_name(**b)).count()
 }
 
 // The text of these bytes.
@@ -143,7 +162,7 @@ fn number(bytes: &[u8]) -> Result<Lexeme, ParseFault>
     requires begins { Starts is_digit bytes.now }
     ensures { ReadsToken bytes.now result }
 {
-    let len = bytes.iter().take_while(|b| is_digit(**b)).count();
+    let len = digits_len(bytes);
     let (digits, _) = bytes.split_at(len);
     let Some(value) = value_of(digits) else {
         return Err(ParseFault::NotBuilt);
@@ -152,6 +171,12 @@ fn number(bytes: &[u8]) -> Result<Lexeme, ParseFault>
         token: Token::Number(value),
         len,
     })
+}
+
+fn digits_len(bytes: &[u8]) -> usize
+    ensures { result ≡ length (take_while is_digit bytes.now) }
+{
+    bytes.iter().take_while(|b| is_digit(**b)).count()
 }
 
 const MAX_NUMBER: u64 = 9_223_372_036_854_775_807;
@@ -215,7 +240,8 @@ fn sign_of(b: u8) -> Option<Sign>
 
 // The comparison that begins with the first byte, by whether `=` follows.
 fn comparison_of(first: u8, followed: bool) -> Option<Cmp>
-    ensures { result ≡ comparison_of first followed }
+    ensures found { IfSome result (λ c. Compares c first followed) }
+    ensures none { IfNone result ((c : Cmp) → Compares c first followed → ⊥) }
 {
     match (first, followed) {
         (b'=', _) => Some(Cmp::Eq),
