@@ -4,3 +4,6 @@ pub mod Whole
 pub mod Utf8
 pub mod Lexemes
 pub mod Numbers
+pub mod Reading
+pub mod Chains
+pub mod Links

@@ -3,3 +3,4 @@ pub mod Grammar
 pub mod Form
 pub mod Script
 pub mod Lexing
+pub mod Reading

@@ -11,7 +11,7 @@ ghost use Rattle.gvdl_syntax.specs.declared.tree.Cmp.{Cmp};
 
 use crate::characters::{begins_name, in_name, in_string, is_blank, is_digit, is_reserved, word_of};
 use crate::fault::ParseFault;
-use crate::token::{Lexeme, Sign, Token};
+use crate::token::{Lexeme, Sign, SmallNumber, Token};
 use crate::tree::Cmp;
 use std::alloc::Global;
 use surge_outside::Text;
@@ -168,7 +168,7 @@ fn number(bytes: &[u8]) -> Result<Lexeme, ParseFault>
         return Err(ParseFault::NotBuilt);
     };
     Ok(Lexeme {
-        token: Token::Number(value),
+        token: Token::Number(SmallNumber::new(value)),
         len,
     })
 }

@@ -8,8 +8,10 @@
 #![tactic(auto)]
 
 mod characters;
+mod cursor;
 mod fault;
 mod lexer;
+mod parser;
 mod token;
 mod tree;
 

@@ -1,0 +1,170 @@
+//! Reads the phrases of a script, each by one function.
+
+ghost use Rattle.std.specs.Prelude.{◌≡◌};
+ghost use Rattle.gvdl_syntax.specs.Grammar.{separated};
+ghost use Rattle.gvdl_syntax.specs.declared.token.Token.TheVariants as token;
+ghost use Rattle.gvdl_syntax.specs.declared.token.Word.TheVariants as words;
+ghost use Rattle.gvdl_syntax.specs.declared.token.Sign.TheVariants as signs;
+ghost use Rattle.gvdl_syntax.specs.Form.{atom, any_of, predicate, item, load, collection, call, run, script};
+ghost use Rattle.gvdl_syntax.specs.Reading.{alone, after_predicate, after_items, Reads};
+
+use crate::cursor::Cursor;
+use crate::fault::ParseFault;
+use crate::token::{Sign, Word};
+use crate::tree::{Arg, Call, Item, ItemBody, Operand, PredTree, Script, Statement};
+use std::alloc::Global;
+use surge_outside::{List, Text};
+
+/// The whole script.
+pub fn script(alloc: Global, cursor: &mut Cursor<'_>) -> Result<Script, ParseFault>
+    ensures { Reads script alone cursor.old.rest.now result cursor.new.rest.now }
+{
+    let loaded = load(alloc, cursor)?;
+    let made = collection(alloc, cursor)?;
+    let started = run(alloc, cursor)?;
+    let mut statements = List::new(alloc);
+    statements.push(made)?;
+    statements.push(started)?;
+    Ok(Script {
+        graph: loaded.0,
+        nodes: loaded.1,
+        edges: loaded.2,
+        statements,
+    })
+}
+
+// The names of the graph, of the nodes file and of the edges file.
+fn load(alloc: Global, cursor: &mut Cursor<'_>) -> Result<(Text, Text, Text), ParseFault>
+    ensures { Reads load alone cursor.old.rest.now result cursor.new.rest.now }
+{
+    cursor.word(Word::Load)?;
+    cursor.word(Word::Graph)?;
+    let graph = cursor.name(alloc)?;
+    cursor.word(Word::Nodes)?;
+    let nodes = cursor.string(alloc)?;
+    cursor.word(Word::Edges)?;
+    let edges = cursor.string(alloc)?;
+    cursor.sign(Sign::Semicolon)?;
+    Ok((graph, nodes, edges))
+}
+
+fn collection(alloc: Global, cursor: &mut Cursor<'_>) -> Result<Statement, ParseFault>
+    ensures { Reads collection alone cursor.old.rest.now result cursor.new.rest.now }
+{
+    cursor.word(Word::Create)?;
+    cursor.word(Word::View)?;
+    cursor.word(Word::Collection)?;
+    let name = cursor.name(alloc)?;
+    cursor.word(Word::On)?;
+    let base = cursor.name(alloc)?;
+    let items = items(alloc, cursor)?;
+    cursor.sign(Sign::Semicolon)?;
+    Ok(Statement::Collection { name, base, items })
+}
+
+// The items with a comma between each two.
+fn items(alloc: Global, cursor: &mut Cursor<'_>) -> Result<List<Item>, ParseFault>
+    ensures { Reads (separated (token.Sign signs.Comma) item) after_items cursor.old.rest.now result cursor.new.rest.now }
+{
+    let mut items = List::new(alloc);
+    let first = item(alloc, cursor)?;
+    items.push(first)?;
+    'more: while cursor.sees_sign(Sign::Comma) {
+        cursor.skip();
+        let next = item(alloc, cursor)?;
+        items.push(next)?;
+    }
+    Ok(items)
+}
+
+fn item(alloc: Global, cursor: &mut Cursor<'_>) -> Result<Item, ParseFault>
+    ensures { Reads item alone cursor.old.rest.now result cursor.new.rest.now }
+{
+    cursor.sign(Sign::OpenBracket)?;
+    let name = cursor.name(alloc)?;
+    cursor.sign(Sign::Colon)?;
+    let rule = predicate(alloc, cursor)?;
+    cursor.sign(Sign::CloseBracket)?;
+    Ok(Item {
+        name,
+        body: ItemBody::Rule(rule),
+    })
+}
+
+fn predicate(alloc: Global, cursor: &mut Cursor<'_>) -> Result<PredTree, ParseFault>
+    ensures { Reads predicate after_predicate cursor.old.rest.now result cursor.new.rest.now }
+{
+    let members = atoms(alloc, cursor)?;
+    Ok(any_of(members))
+}
+
+// The comparisons with `or` between each two.
+fn atoms(alloc: Global, cursor: &mut Cursor<'_>) -> Result<List<PredTree>, ParseFault>
+    ensures { Reads (separated (token.Word words.Or) atom) after_predicate cursor.old.rest.now result cursor.new.rest.now }
+{
+    let mut members = List::new(alloc);
+    let first = atom(alloc, cursor)?;
+    members.push(first)?;
+    'more: while cursor.sees_word(Word::Or) {
+        cursor.skip();
+        let next = atom(alloc, cursor)?;
+        members.push(next)?;
+    }
+    Ok(members)
+}
+
+// A predicate that holds where some member does.
+fn any_of(members: List<PredTree>) -> PredTree
+    ensures { result ≡ any_of members }
+{
+    if members.len() == 1 {
+        let mut only = members.into_vec();
+        only.remove(0)
+    } else {
+        PredTree::Or(members)
+    }
+}
+
+fn atom(alloc: Global, cursor: &mut Cursor<'_>) -> Result<PredTree, ParseFault>
+    ensures { Reads atom alone cursor.old.rest.now result cursor.new.rest.now }
+{
+    let property = cursor.name(alloc)?;
+    let compared = cursor.comparison()?;
+    let number = cursor.number()?;
+    Ok(PredTree::Compare(
+        Operand::Edge(property),
+        compared,
+        Operand::Number(number as i64),
+    ))
+}
+
+fn call(alloc: Global, cursor: &mut Cursor<'_>) -> Result<Call, ParseFault>
+    ensures { Reads call alone cursor.old.rest.now result cursor.new.rest.now }
+{
+    cursor.this_name("hops")?;
+    cursor.sign(Sign::Open)?;
+    let number = cursor.number()?;
+    cursor.sign(Sign::Close)?;
+    let name = Text::from_string(String::from_str(alloc, "hops")?);
+    let mut args = List::new(alloc);
+    args.push(Arg::Number(number as i64))?;
+    Ok(Call { name, args })
+}
+
+fn run(alloc: Global, cursor: &mut Cursor<'_>) -> Result<Statement, ParseFault>
+    ensures { Reads run alone cursor.old.rest.now result cursor.new.rest.now }
+{
+    cursor.word(Word::Run)?;
+    let call = call(alloc, cursor)?;
+    cursor.word(Word::On)?;
+    let target = cursor.name(alloc)?;
+    cursor.word(Word::Within)?;
+    let number = cursor.number()?;
+    cursor.word(Word::Rounds)?;
+    cursor.sign(Sign::Semicolon)?;
+    Ok(Statement::Run {
+        call,
+        target,
+        number,
+    })
+}
