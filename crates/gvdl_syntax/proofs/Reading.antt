@@ -1,6 +1,6 @@
 -- Reading the parts of a phrase one after the other.
 use Rattle.std.proofs.Common.{◌≡◌, ◌≢◌, Bool, true, false, List, [], ◌∷◌, ◌++◌, Result, Ok, Err, refl, sym, ap, subst, ◌∙◌, append_assoc}
-use Rattle.std.specs.Prelude.{IsErrAnd}
+use Rattle.std.specs.Prelude.{IsErrAnd, IfOk}
 use Rattle.std.proofs.lemmas.List.{append_cancel_left, append-nil}
 use Rattle.gvdl_syntax.specs.declared.token.Token.{Token}
 use Rattle.gvdl_syntax.specs.declared.token.Token.TheVariants.{End}
@@ -150,6 +150,13 @@ pub no_memory : {A : Type 0} (L : List Token → A → Type 0) (joins : Token �
     → IsErrAnd r (λ x. x ≡ faults.NoMemory) → Reads L joins ts r rest
 no_memory L joins ts rest (Ok a) h = absurd h
 no_memory L joins ts rest (Err x) h = subst (λ (y : ParseFault). Fails L joins ts y rest) (sym h) (record { why = tt })
+
+-- a tree that is made, or want of memory
+pub made : {A : Type 0} (L : List Token → A → Type 0) (joins : Token → Bool) (ts rest : List Token) (r : Result A ParseFault) (a : A)
+    → IfOk r (λ x. x ≡ a) → r ≢ Err faults.NotBuilt → Finds L joins ts a rest → Reads L joins ts r rest
+made L joins ts rest (Ok x) a h other p = subst (λ y. Finds L joins ts y rest) (sym h) p
+made L joins ts rest (Err faults.NotBuilt) a h other p = absurd (other refl)
+made L joins ts rest (Err faults.NoMemory) a h other p = record { why = tt }
 
 -- ---- a part that ends by itself, and what follows it
 

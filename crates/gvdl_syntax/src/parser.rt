@@ -1,6 +1,6 @@
 //! Reads the phrases of a script, each by one function.
 
-ghost use Rattle.std.specs.Prelude.{◌≡◌};
+ghost use Rattle.std.specs.Prelude.{◌≡◌, ◌≢◌, ◌<◌, ◌^◌, [], ◌∷◌, pos, IfOk};
 ghost use Rattle.gvdl_syntax.specs.Grammar.{separated};
 ghost use Rattle.gvdl_syntax.specs.declared.token.Token.TheVariants as token;
 ghost use Rattle.gvdl_syntax.specs.declared.token.Word.TheVariants as words;
@@ -134,8 +134,15 @@ fn atom(alloc: Global, cursor: &mut Cursor<'_>) -> Result<PredTree, ParseFault>
     Ok(PredTree::Compare(
         Operand::Edge(property),
         compared,
-        Operand::Number(number as i64),
+        operand_of(number),
     ))
+}
+
+fn operand_of(number: u64) -> Operand
+    requires { number < 2 ^ 63 }
+    ensures { result ≡ Operand.Number (pos number) }
+{
+    Operand::Number(number as i64)
 }
 
 fn call(alloc: Global, cursor: &mut Cursor<'_>) -> Result<Call, ParseFault>
@@ -145,7 +152,16 @@ fn call(alloc: Global, cursor: &mut Cursor<'_>) -> Result<Call, ParseFault>
     cursor.sign(Sign::Open)?;
     let number = cursor.number()?;
     cursor.sign(Sign::Close)?;
-    let name = Text::from_string(String::from_str(alloc, "hops")?);
+    call_of(alloc, "hops", number)
+}
+
+// A call with one number.
+fn call_of(alloc: Global, program: &str, number: u64) -> Result<Call, ParseFault>
+    requires { number < 2 ^ 63 }
+    ensures called { IfOk result (λ c. c ≡ record { name = program.now; args = Arg.Number (pos number) ∷ [] }) }
+    ensures fault { result ≢ Err ParseFault.NotBuilt }
+{
+    let name = Text::from_string(String::from_str(alloc, program)?);
     let mut args = List::new(alloc);
     args.push(Arg::Number(number as i64))?;
     Ok(Call { name, args })

@@ -23,4 +23,4 @@ pub returns : goal.returns
 returns c =
     let n : c.digits_len-len.result ≡ prefix_len is_digit c.args.bytes.now = c.digits_len-len.ensures ∙ length-prefix_len is_digit c.args.bytes.now in
     let run : c.split_at.result.0.now ≡ take (prefix_len is_digit c.args.bytes.now) c.args.bytes.now = c.split_at.ensures.front ∙ ap (λ (n : ℕ). take n c.args.bytes.now) n in
-    rw n (number_lexeme c.args.bytes.now c.requires.begins c.in-Some.value (c.in-Some.ensures.value ∙ ap (digits_value 10) run) c.in-Some.ensures.limit)
+    rw (n, c.new.ensures) (number_lexeme c.args.bytes.now c.requires.begins c.in-Some.value (c.in-Some.ensures.value ∙ ap (digits_value 10) run) c.in-Some.ensures.limit)

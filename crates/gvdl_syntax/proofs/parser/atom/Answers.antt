@@ -16,4 +16,4 @@ returns-in_err-number c = passed_on _ c.from_residual-in_err-number.ensures.1 (c
 
 pub returns : goal.returns
 unfolding atom
-returns c = c.in_ok-property.ensures ▸ c.in_ok-compared.ensures ▸ c.in_ok-number.ensures.read ▸ pure_found _ _ _
+returns c = rw c.operand_of.ensures (c.in_ok-property.ensures ▸ c.in_ok-compared.ensures ▸ c.in_ok-number.ensures.read ▸ pure_found _ _ _)

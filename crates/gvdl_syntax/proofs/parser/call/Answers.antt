@@ -1,5 +1,6 @@
 use Rattle.gvdl_syntax.specs.Form.{call}
-use Rattle.gvdl_syntax.proofs.Reading.{first_stuck, ◌▹◌, ◌▸◌, pure_found, passed_on}
+use Rattle.gvdl_syntax.proofs.Reading.{first_stuck, ◌▹◌, ◌▸◌, pure_found, passed_on, made}
+use Rattle.gvdl_syntax.specs.Reading.{alone}
 use Rattle.gvdl_syntax.proofs.parser.call.Goals as goal
 
 pub returns-in_err-this_name : goal.returns-in_err-this_name
@@ -20,4 +21,4 @@ returns-in_err-sign-2 c = passed_on _ c.from_residual-in_err-sign-2.ensures.1 (c
 
 pub returns : goal.returns
 unfolding call
-returns c = c.in_ok-this_name.ensures ▸ c.in_ok-sign.ensures ▸ c.in_ok-number.ensures.read ▸ c.in_ok-sign-2.ensures ▸ pure_found _ _ _
+returns c = made call alone _ _ c.call_of.result _ c.call_of.ensures.called c.call_of.ensures.fault (c.in_ok-this_name.ensures ▸ c.in_ok-sign.ensures ▸ c.in_ok-number.ensures.read ▸ c.in_ok-sign-2.ensures ▸ pure_found _ _ _)
