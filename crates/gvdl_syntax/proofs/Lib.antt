@@ -7,3 +7,4 @@ pub mod Numbers
 pub mod Reading
 pub mod Chains
 pub mod Links
+pub mod Trees

@@ -1,6 +1,7 @@
 -- The run of bytes at the front of a list that pass a test.
 use Rattle.std.proofs.Common.{◌≡◌, ◌≢◌, ◌⊎◌, inl, inr, ◌+◌, ◌≤◌, ◌<◌, ℕ, zero, suc, Bool, true, false, cond, List, [], ◌∷◌, ◌++◌, length, take, drop, refl, sym, ap, ◌∙◌, arith}
-use Rattle.std.specs.Prelude.{◌&&◌, ◌||◌, if◌then◌else◌}
+use Rattle.std.proofs.lemmas.Bool.Decides.{nat_tests}
+use Rattle.std.specs.Prelude.{◌&&◌, ◌||◌, ◌==◌, if◌then◌else◌}
 use Rattle.std.specs.List.{list_all, prefix_len}
 use Rattle.std.proofs.lemmas.List.{take_at, drop_at}
 use Rattle.gvdl_syntax.specs.Tokens.{Stops}
@@ -65,3 +66,11 @@ module _ (p : ℕ → Bool) (bytes s r : List ℕ) (split : bytes ≡ s ++ r) (p
 
   pub behind_run : drop (prefix_len p bytes) bytes ≡ r
   behind_run = rw (run_len, split) (drop_at s r (length s) refl)
+
+pub empty : {A : Type 0} (xs : List A) → (length xs == 0) ≡ true → xs ≡ []
+empty [] e = refl
+empty (x ∷ xs) e = absurd (grind (arith, nat_tests))
+
+pub not_empty : {A : Type 0} (xs : List A) → (length xs == 0) ≡ false → xs ≢ []
+not_empty [] e f = absurd cc
+not_empty (x ∷ xs) e f = let no_way : x ∷ xs ≡ [] = f in absurd cc

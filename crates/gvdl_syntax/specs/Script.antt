@@ -18,3 +18,8 @@ pub record IsScript (text : List ℕ) (tree : Script) : Type 0 where
   pub tokens : List Token
   pub spelled : AreTokens text tokens
   pub phrase : script tokens tree
+
+-- the tree of the tokens, and no other tree is that
+pub record IsTheTree (tokens : List Token) (tree : Script) : Type 0 where
+  pub phrase : script tokens tree
+  pub only : (other : Script) → script tokens other → other ≡ tree

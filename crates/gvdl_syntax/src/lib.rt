@@ -16,4 +16,5 @@ mod token;
 mod tree;
 
 pub use fault::ParseFault;
+pub use parser::parse;
 pub use tree::{Arg, Call, Cmp, Item, ItemBody, Operand, PredTree, Script, Statement};

@@ -1,7 +1,6 @@
 use Rattle.std.proofs.Common.{◌≡◌, ◌≢◌, ◌∙◌, ℕ, ◌≤◌, List, [], ◌∷◌, ◌++◌, length, drop, Result, Ok, Err, true, false, refl, ap, sym, subst, rules, arith, length-drop}
 use Rattle.std.specs.Prelude.{IsErrAnd, ◌==◌}
 use Rattle.std.specs.List.{prefix_len}
-use Rattle.std.proofs.lemmas.Bool.Decides.{nat_tests}
 use Rattle.std.specs.Str.{IsUtf8}
 use Rattle.gvdl_syntax.specs.Tokens.{is_blank}
 use Rattle.gvdl_syntax.specs.declared.token.Token.{Token}
@@ -9,17 +8,10 @@ use Rattle.gvdl_syntax.specs.declared.token.Token.TheVariants as t
 use Rattle.gvdl_syntax.specs.declared.fault.ParseFault.{ParseFault}
 use Rattle.gvdl_syntax.specs.declared.fault.ParseFault.TheVariants as faults
 use Rattle.gvdl_syntax.specs.Lexing.{IsLexeme, HasNoToken, ReadsToken, HasNoTokens}
+use Rattle.gvdl_syntax.proofs.Runs.{empty, not_empty}
 use Rattle.gvdl_syntax.proofs.Whole.{behind, start, read_more, read_all, read_stuck}
 use Rattle.gvdl_syntax.proofs.Utf8.{past_blanks, past_token}
 use Rattle.gvdl_syntax.proofs.lexer.lex.Goals as goal
-
-empty : (xs : List ℕ) → (length xs == 0) ≡ true → xs ≡ []
-empty [] e = refl
-empty (x ∷ xs) e = absurd (grind (arith, nat_tests))
-
-not_empty : (xs : List ℕ) → (length xs == 0) ≡ false → xs ≢ []
-not_empty [] e f = absurd cc
-not_empty (x ∷ xs) e f = let no_way : x ∷ xs ≡ [] = f in absurd cc
 
 -- the fault was passed on
 not_built : {A : Type 0} (r : Result A ParseFault) (e : ParseFault) (bytes : List ℕ) → IsErrAnd r (λ x. x ≡ e) → r ≡ Err faults.NotBuilt → ReadsToken bytes (Err e) → HasNoToken bytes
