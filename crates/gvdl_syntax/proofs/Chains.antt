@@ -6,8 +6,8 @@ use Rattle.gvdl_syntax.specs.declared.token.Token.TheVariants.{End}
 use Rattle.gvdl_syntax.specs.declared.fault.ParseFault.{ParseFault}
 use Rattle.gvdl_syntax.specs.declared.fault.ParseFault.TheVariants as faults
 use Rattle.gvdl_syntax.specs.Grammar.{word, pure, Then, many, separated}
-use Rattle.gvdl_syntax.specs.Reading.{next, after, alone, Forces, Finds, Fails, Reads}
-use Rattle.gvdl_syntax.proofs.Reading.{next-append, Apart, first_fails, then_finds, then_fails, word_found, pure_found, first_stuck, ◌▹◌, ◌▸◌}
+use Rattle.gvdl_syntax.specs.Reading.{next, after, Forces, Finds, Fails, Reads}
+use Rattle.gvdl_syntax.proofs.Reading.{next-append, Apart, first_fails, then_finds, then_fails, word_found, pure_found, ◌▹◌, ◌▸◌}
 
 -- a member behind the token
 abbrev pub later : {A : Type 0} → Token → (List Token → A → Type 0) → List Token → A → Type 0

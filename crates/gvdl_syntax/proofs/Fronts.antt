@@ -1,5 +1,5 @@
 -- There is at most one token at the front of some bytes.
-use Rattle.std.proofs.Common.{◌≡◌, ◌≢◌, ◌⊎◌, inl, inr, ◌+◌, ◌≤◌, ◌<◌, ◌^◌, ℕ, zero, suc, Bool, true, false, cond, List, [], ◌∷◌, ◌++◌, length, take, drop, refl, sym, ap, subst, ◌∙◌, append_assoc, arith}
+use Rattle.std.proofs.Common.{◌≡◌, ◌≢◌, ℕ, Bool, true, false, List, [], ◌∷◌, ◌++◌, take, refl, sym, ap, subst, ◌∙◌, append_assoc, arith}
 use Rattle.std.specs.Prelude.{◌&&◌, ◌||◌, ◌==◌, if◌then◌else◌, bytes_eq, codes}
 use Rattle.std.specs.List.{list_all, prefix_len}
 use Rattle.std.specs.Str.Parse.{digits_value}
@@ -15,7 +15,7 @@ use Rattle.gvdl_syntax.specs.declared.tree.Cmp.{Cmp}
 use Rattle.gvdl_syntax.specs.declared.tree.Cmp.TheVariants as cmp
 use Rattle.gvdl_syntax.specs.Tokens.{is_blank, is_digit, begins_name, in_name, in_string, word_spelling, sign_spelling, cmp_spelling, is_reserved, IsWordShaped, IsDigits, Spells, goes_on, Stops, IsAtFront}
 use Rattle.gvdl_syntax.specs.Lexing.{is_next}
-use Rattle.gvdl_syntax.proofs.Runs.{both, one_of, if_true, if_false, run_of, behind_run}
+use Rattle.gvdl_syntax.proofs.Runs.{if_true, if_false, run_of, behind_run}
 
 -- ---- kinds of characters exclude one another
 

@@ -1,9 +1,9 @@
 -- The token at the front, by what the bytes begin with.
-use Rattle.std.proofs.Common.{◌≡◌, ◌≢◌, ◌+◌, ◌≤◌, ◌<◌, ◌^◌, ℕ, zero, suc, Bool, true, false, not, cond, List, [], ◌∷◌, ◌++◌, length, take, drop, refl, sym, ap, subst, ◌∙◌, append_assoc, length-append, length-drop, arith, rules}
-use Rattle.std.specs.Prelude.{◌==◌, ◌||◌}
+use Rattle.std.proofs.Common.{◌≡◌, ◌≢◌, ◌+◌, ◌≤◌, ◌<◌, ◌^◌, ℕ, Bool, true, false, not, cond, List, [], ◌∷◌, ◌++◌, length, take, drop, refl, sym, ap, subst, ◌∙◌, append_assoc, length-append, arith}
+use Rattle.std.specs.Prelude.{◌==◌}
 use Rattle.std.specs.List.{list_all, prefix_len}
 use Rattle.std.specs.Str.Parse.{digits_value}
-use Rattle.std.proofs.lemmas.List.{take-append-drop, take_at, drop_at}
+use Rattle.std.proofs.lemmas.List.{take-append-drop, drop_at}
 use Rattle.std.proofs.lemmas.List.Sums.{prefix_len-le-length}
 use Rattle.std.proofs.lemmas.List.Folds.{length-prefix_len}
 use Rattle.std.proofs.lemmas.Bool.Decides.{nat_tests}
@@ -17,7 +17,7 @@ use Rattle.gvdl_syntax.specs.declared.tree.Cmp.TheVariants as cmp
 use Rattle.gvdl_syntax.specs.Tokens.{is_digit, begins_name, in_name, in_string, word_spelling, sign_spelling, cmp_spelling, is_reserved, IsWordShaped, IsDigits, Spells, goes_on, Stops, IsAtFront}
 use Rattle.gvdl_syntax.specs.Lexing.{Starts, is_next, closes, Compares, IsLexeme, HasNoToken}
 use Rattle.gvdl_syntax.proofs.Runs.{both, run_passes, run_stops, run_of, behind_run, if_true, if_false, one_more}
-use Rattle.gvdl_syntax.proofs.Fronts.{token_at, run_at, word_at, word_shaped, all_in_name, all_digits, in_name_too, digit_no_name, begins_as, begins_digit, heads, front_is, number_token, none_in_nothing}
+use Rattle.gvdl_syntax.proofs.Fronts.{run_at, word_at, word_shaped, all_in_name, in_name_too, digit_no_name, begins_as, begins_digit, heads, front_is}
 
 -- ---- runs
 
@@ -142,9 +142,9 @@ no_string bs unclosed token rest f =
     let tails : bs ≡ s ++ 39 ∷ rest = cc in
     let behind : drop (prefix_len in_string bs) bs ≡ 39 ∷ rest = behind_run in_string bs s (39 ∷ rest) tails h.1 refl in
     closed rest g.longest (sym (ap closes behind) ∙ unclosed) where
-  closed : (left : List ℕ) → Stops (λ b. b == 39) left → not (is_next 39 left) ≡ false → ⊥
-  closed [] h e = absurd cc
-  closed (x ∷ xs) h e = let no_way : true ≡ false = ap not (sym h) ∙ e in absurd cc
+      closed : (left : List ℕ) → Stops (λ b. b == 39) left → not (is_next 39 left) ≡ false → ⊥
+      closed [] h e = absurd cc
+      closed (x ∷ xs) h e = let no_way : true ≡ false = ap not (sym h) ∙ e in absurd cc
 
 -- ---- signs
 

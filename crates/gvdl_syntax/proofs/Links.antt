@@ -1,6 +1,5 @@
 -- What stands between members.
-use Rattle.std.proofs.Common.{◌≡◌, ◌≢◌, Bool, true, false, refl}
-use Rattle.gvdl_syntax.specs.declared.token.Token.{Token}
+use Rattle.std.proofs.Common.{refl}
 use Rattle.gvdl_syntax.specs.declared.token.Token.TheVariants as t
 use Rattle.gvdl_syntax.specs.declared.token.Word.TheVariants as word
 use Rattle.gvdl_syntax.specs.declared.token.Sign.TheVariants as sign

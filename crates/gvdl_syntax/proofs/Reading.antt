@@ -1,13 +1,13 @@
 -- Reading the parts of a phrase one after the other.
-use Rattle.std.proofs.Common.{◌≡◌, ◌≢◌, Bool, true, false, List, [], ◌∷◌, ◌++◌, Result, Ok, Err, refl, sym, ap, subst, ◌∙◌, append_assoc}
+use Rattle.std.proofs.Common.{◌≡◌, ◌≢◌, Bool, false, List, [], ◌∷◌, ◌++◌, Result, Ok, Err, refl, sym, ap, subst, ◌∙◌, append_assoc}
 use Rattle.std.specs.Prelude.{IsErrAnd, IfOk}
-use Rattle.std.proofs.lemmas.List.{append_cancel_left, append-nil}
+use Rattle.std.proofs.lemmas.List.{append_cancel_left}
 use Rattle.gvdl_syntax.specs.declared.token.Token.{Token}
 use Rattle.gvdl_syntax.specs.declared.token.Token.TheVariants.{End}
 use Rattle.gvdl_syntax.specs.declared.fault.ParseFault.{ParseFault}
 use Rattle.gvdl_syntax.specs.declared.fault.ParseFault.TheVariants as faults
 use Rattle.gvdl_syntax.specs.Grammar.{one, word, pure, Then}
-use Rattle.gvdl_syntax.specs.Reading.{next, after, alone, Forces, Finds, IsStuck, FailsBy, Fails, Reads}
+use Rattle.gvdl_syntax.specs.Reading.{next, after, alone, Forces, Finds, Fails, Reads}
 
 -- what comes next, behind the same tokens
 pub next-append : (ts r s : List Token) → next r ≡ next s → next (ts ++ r) ≡ next (ts ++ s)

@@ -1,5 +1,5 @@
 -- From a phrase at the front of the tokens to all of them.
-use Rattle.std.proofs.Common.{◌≡◌, ◌≢◌, ℕ, false, nat_eq, List, [], ◌∷◌, ◌++◌, length, Result, Ok, Err, refl, sym, ap, subst, ◌∙◌, arith}
+use Rattle.std.proofs.Common.{◌≡◌, ◌≢◌, ℕ, false, nat_eq, List, [], ◌++◌, Result, Ok, Err, refl, sym, ap, subst, ◌∙◌}
 use Rattle.std.specs.Prelude.{IsErrAnd, IfOk}
 use Rattle.std.specs.List.{starts_with}
 use Rattle.std.specs.Str.{IsUtf8}
@@ -9,7 +9,7 @@ use Rattle.gvdl_syntax.specs.declared.fault.ParseFault.{ParseFault}
 use Rattle.gvdl_syntax.specs.declared.fault.ParseFault.TheVariants as faults
 use Rattle.gvdl_syntax.specs.declared.tree.Script.{Script}
 use Rattle.gvdl_syntax.specs.Form.{script}
-use Rattle.gvdl_syntax.specs.Reading.{alone, Finds, IsStuck, Fails}
+use Rattle.gvdl_syntax.specs.Reading.{alone, Finds, Fails}
 use Rattle.gvdl_syntax.specs.Lexing.{AreTheTokens}
 use Rattle.gvdl_syntax.specs.Script.{byte_order_mark, IsScript, IsTheTree}
 

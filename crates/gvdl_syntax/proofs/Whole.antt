@@ -1,5 +1,5 @@
 -- From tokens at the front to the tokens of a whole text.
-use Rattle.std.proofs.Common.{◌≡◌, ◌≢◌, ℕ, true, List, [], ◌∷◌, ◌++◌, length, take, drop, refl, sym, ap, subst, ◌∙◌, append_assoc}
+use Rattle.std.proofs.Common.{◌≡◌, ◌≢◌, ℕ, true, List, [], ◌∷◌, ◌++◌, take, drop, refl, sym, ap, subst, ◌∙◌, append_assoc}
 use Rattle.std.specs.List.{list_all, prefix_len}
 use Rattle.std.proofs.lemmas.List.{take-append-drop, append-nil}
 use Rattle.gvdl_syntax.specs.declared.token.Token.{Token}
@@ -46,13 +46,13 @@ read_more text tokens bytes token n longer left so_far l e f =
       whole = λ more m. subst (AreTokens text) (regrouped more) (so_far.whole (token ∷ more) (left, here, m));
       only = λ all m. let so = so_far.only all m in after (so.0) all so.1 so.2;
     } where
-  after : (more all : List Token) → all ≡ tokens ++ more → AreTokens bytes more → (others : List Token) × (all ≡ longer ++ others) × AreTokens left others
-  after [] all e' m = absurd (none_in_nothing token (drop n (behind bytes)) (subst (λ (x : List ℕ). IsAtFront token x (drop n (behind bytes))) (nothing_behind bytes m) l.front))
-  after (other ∷ others) all e' m =
-      let g = front_of bytes m.0 other m.1 in
-      let same : other ≡ token = token_is (behind bytes) (drop n (behind bytes)) m.0 token other l.front g in
-      let rest : m.0 ≡ left = rest_is token (behind bytes) m.0 (drop n (behind bytes)) (subst (λ (x : Token). IsAtFront x (behind bytes) m.0) same g) l.front ∙ sym f in
-      (others, e' ∙ ap (λ (x : Token). tokens ++ x ∷ others) same ∙ sym (append_assoc tokens (token ∷ []) others) ∙ ap (λ (x : List Token). x ++ others) (sym e), subst (λ (x : List ℕ). AreTokens x others) rest m.2)
+      after : (more all : List Token) → all ≡ tokens ++ more → AreTokens bytes more → (others : List Token) × (all ≡ longer ++ others) × AreTokens left others
+      after [] all e' m = absurd (none_in_nothing token (drop n (behind bytes)) (subst (λ (x : List ℕ). IsAtFront token x (drop n (behind bytes))) (nothing_behind bytes m) l.front))
+      after (other ∷ others) all e' m =
+          let g = front_of bytes m.0 other m.1 in
+          let same : other ≡ token = token_is (behind bytes) (drop n (behind bytes)) m.0 token other l.front g in
+          let rest : m.0 ≡ left = rest_is token (behind bytes) m.0 (drop n (behind bytes)) (subst (λ (x : Token). IsAtFront x (behind bytes) m.0) same g) l.front ∙ sym f in
+          (others, e' ∙ ap (λ (x : Token). tokens ++ x ∷ others) same ∙ sym (append_assoc tokens (token ∷ []) others) ∙ ap (λ (x : List Token). x ++ others) (sym e), subst (λ (x : List ℕ). AreTokens x others) rest m.2)
 
 -- no more tokens
 pub read_all : (text : List ℕ) (tokens : List Token) (bytes : List ℕ) → IsReadUpTo text tokens bytes → behind bytes ≡ [] → AreTheTokens text tokens

@@ -1,5 +1,5 @@
 -- The grammar of a script: a load, one collection of views, and one run of `hops` on it.
-use Rattle.std.specs.Prelude.{ℕ, ℤ, pos, List, [], ◌∷◌, codes}
+use Rattle.std.specs.Prelude.{ℕ, pos, List, [], ◌∷◌, codes}
 use Rattle.gvdl_syntax.specs.declared.token.Token.{Token}
 use Rattle.gvdl_syntax.specs.declared.token.Token.TheVariants as t
 use Rattle.gvdl_syntax.specs.declared.token.Word.TheVariants as word
@@ -14,7 +14,7 @@ use Rattle.gvdl_syntax.specs.declared.tree.Arg.TheVariants as arg
 use Rattle.gvdl_syntax.specs.declared.tree.Statement.{Statement}
 use Rattle.gvdl_syntax.specs.declared.tree.Statement.TheVariants as statement
 use Rattle.gvdl_syntax.specs.declared.tree.Script.{Script}
-use Rattle.gvdl_syntax.specs.Grammar.{Then, ◌>>=◌, ◌>>◌, one, word, pure, separated}
+use Rattle.gvdl_syntax.specs.Grammar.{◌>>=◌, ◌>>◌, one, word, pure, separated}
 
 -- atom = name cmp number
 unfoldable pub atom : List Token → PredTree → Type 0

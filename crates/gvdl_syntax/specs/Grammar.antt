@@ -1,5 +1,5 @@
 -- Grammars as relations between lists of tokens and trees.
-use Rattle.std.specs.Prelude.{◌≡◌, ◌⊎◌, List, [], ◌∷◌, ◌++◌}
+use Rattle.std.specs.Prelude.{◌≡◌, List, [], ◌∷◌, ◌++◌}
 use Rattle.gvdl_syntax.specs.declared.token.Token.{Token}
 
 -- the token that carries this

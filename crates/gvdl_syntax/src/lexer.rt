@@ -9,7 +9,9 @@ ghost use Rattle.gvdl_syntax.specs.Lexing.{Starts, closes, is_next, Compares, Re
 ghost use Rattle.gvdl_syntax.specs.declared.token.Sign.{Sign};
 ghost use Rattle.gvdl_syntax.specs.declared.tree.Cmp.{Cmp};
 
-use crate::characters::{begins_name, in_name, in_string, is_blank, is_digit, is_reserved, word_of};
+use crate::characters::{
+    begins_name, in_name, in_string, is_blank, is_digit, is_reserved, word_of,
+};
 use crate::fault::ParseFault;
 use crate::token::{Lexeme, Sign, SmallNumber, Token};
 use crate::tree::Cmp;

@@ -18,3 +18,6 @@ mod tree;
 pub use fault::ParseFault;
 pub use parser::parse;
 pub use tree::{Arg, Call, Cmp, Item, ItemBody, Operand, PredTree, Script, Statement};
+
+#[cfg(test)]
+mod tests;

@@ -183,11 +183,7 @@ fn atom(alloc: Global, cursor: &mut Cursor<'_>) -> Result<PredTree, ParseFault>
     let property = cursor.name(alloc)?;
     let compared = cursor.comparison()?;
     let number = cursor.number()?;
-    Ok(PredTree::Compare(
-        Operand::Edge(property),
-        compared,
-        operand_of(number),
-    ))
+    Ok(PredTree::Compare(Operand::Edge(property), compared, operand_of(number)))
 }
 
 fn operand_of(number: u64) -> Operand

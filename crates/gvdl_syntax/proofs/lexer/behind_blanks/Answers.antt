@@ -1,5 +1,4 @@
-use Rattle.std.proofs.Common.{◌≡◌, ◌∙◌, ℕ, drop, ap}
-use Rattle.std.specs.List.{prefix_len}
+use Rattle.std.proofs.Common.{◌∙◌, ℕ, drop, ap}
 use Rattle.std.proofs.lemmas.List.Folds.{length-prefix_len}
 use Rattle.gvdl_syntax.specs.Tokens.{is_blank}
 use Rattle.gvdl_syntax.proofs.lexer.behind_blanks.Goals as goal

@@ -1,15 +1,13 @@
-use Rattle.std.proofs.Common.{◌≡◌, ◌≢◌, ◌∙◌, ℕ, ◌≤◌, List, [], ◌∷◌, ◌++◌, length, drop, Result, Ok, Err, true, false, refl, ap, sym, subst, rules, arith, length-drop}
-use Rattle.std.specs.Prelude.{IsErrAnd, ◌==◌}
+use Rattle.std.proofs.Common.{◌≡◌, ◌≢◌, ◌∙◌, ℕ, List, [], length, drop, Result, Ok, Err, ap, sym, subst, arith, length-drop}
+use Rattle.std.specs.Prelude.{IsErrAnd}
 use Rattle.std.specs.List.{prefix_len}
 use Rattle.std.specs.Str.{IsUtf8}
 use Rattle.gvdl_syntax.specs.Tokens.{is_blank}
-use Rattle.gvdl_syntax.specs.declared.token.Token.{Token}
-use Rattle.gvdl_syntax.specs.declared.token.Token.TheVariants as t
 use Rattle.gvdl_syntax.specs.declared.fault.ParseFault.{ParseFault}
 use Rattle.gvdl_syntax.specs.declared.fault.ParseFault.TheVariants as faults
-use Rattle.gvdl_syntax.specs.Lexing.{IsLexeme, HasNoToken, ReadsToken, HasNoTokens}
+use Rattle.gvdl_syntax.specs.Lexing.{IsLexeme, HasNoToken, ReadsToken}
 use Rattle.gvdl_syntax.proofs.Runs.{empty, not_empty}
-use Rattle.gvdl_syntax.proofs.Whole.{behind, start, read_more, read_all, read_stuck}
+use Rattle.gvdl_syntax.proofs.Whole.{read_more, read_all, read_stuck}
 use Rattle.gvdl_syntax.proofs.Utf8.{past_blanks, past_token}
 use Rattle.gvdl_syntax.proofs.lexer.lex.Goals as goal
 

@@ -1,4 +1,4 @@
-use Rattle.std.proofs.Common.{◌≡◌, ◌≤◌, ℕ, length}
+use Rattle.std.proofs.Common.{◌≤◌, length}
 use Rattle.std.specs.Str.{IsUtf8}
 use Rattle.gvdl_syntax.specs.Lexing.{IsReadUpTo}
 use Rattle.gvdl_syntax.proofs.lexer.lex.Given as goal

@@ -1,5 +1,4 @@
-use Rattle.std.proofs.Common.{◌≡◌, ◌∙◌, ℕ, Bool, ap, sym, subst}
-use Rattle.gvdl_syntax.specs.declared.tree.Cmp.{Cmp}
+use Rattle.std.proofs.Common.{Bool, sym, subst}
 use Rattle.gvdl_syntax.specs.Lexing.{Compares}
 use Rattle.gvdl_syntax.proofs.Lexemes.{sign_lexeme, cmp_lexeme, no_sign}
 use Rattle.gvdl_syntax.proofs.lexer.sign.Goals as goal

@@ -1,11 +1,10 @@
-use Rattle.std.proofs.Common.{◌≡◌, ◌∙◌, ℕ, ◌+◌, true, false, List, [], ◌∷◌, ◌++◌, take, drop, ap, sym, subst, rules}
+use Rattle.std.proofs.Common.{◌≡◌, ◌∙◌, ℕ, List, ◌∷◌, ◌++◌, take, drop, ap, sym, subst}
 use Rattle.std.specs.Str.{IsUtf8}
 use Rattle.std.specs.List.{prefix_len}
 use Rattle.std.proofs.lemmas.List.{take-append-drop}
 use Rattle.std.proofs.lemmas.List.Folds.{length-prefix_len}
 use Rattle.gvdl_syntax.specs.Tokens.{in_string}
-use Rattle.gvdl_syntax.specs.declared.token.Token.TheVariants as t
-use Rattle.gvdl_syntax.specs.Lexing.{closes, IsLexeme}
+use Rattle.gvdl_syntax.specs.Lexing.{closes}
 use Rattle.gvdl_syntax.proofs.Lexemes.{string_lexeme, no_string, closing}
 use Rattle.gvdl_syntax.proofs.Utf8.{past_quote, content_utf8}
 use Rattle.gvdl_syntax.proofs.lexer.string.Goals as goal

@@ -1,4 +1,4 @@
-use Rattle.std.proofs.Common.{◌≡◌, ◌<◌, ◌-◌, get_or, rules, arith}
+use Rattle.std.proofs.Common.{rules}
 use Rattle.gvdl_syntax.proofs.Numbers.{too_large}
 use Rattle.gvdl_syntax.proofs.lexer.value_of.Goals as goal
 

@@ -1,9 +1,8 @@
-use Rattle.std.proofs.Common.{◌≡◌, ◌≢◌, ◌∙◌, ℕ, ◌+◌, true, false, List, [], ◌∷◌, ◌++◌, take, drop, ap, sym, subst, rules}
+use Rattle.std.proofs.Common.{◌≡◌, ◌∙◌, ℕ, take, ap, sym, subst}
 use Rattle.std.specs.Str.{IsUtf8}
 use Rattle.std.specs.List.{prefix_len}
 use Rattle.std.proofs.lemmas.List.Folds.{length-prefix_len}
-use Rattle.gvdl_syntax.specs.declared.token.Word.{Word}
-use Rattle.gvdl_syntax.specs.Tokens.{in_name, is_reserved, word_spelling}
+use Rattle.gvdl_syntax.specs.Tokens.{in_name, is_reserved}
 use Rattle.gvdl_syntax.proofs.Runs.{run_passes}
 use Rattle.gvdl_syntax.proofs.Lexemes.{word_lexeme, name_lexeme, no_word}
 use Rattle.gvdl_syntax.proofs.Utf8.{run_utf8, small_name}

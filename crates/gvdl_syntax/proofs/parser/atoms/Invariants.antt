@@ -1,9 +1,8 @@
 use Rattle.std.proofs.Common.{length}
 use Rattle.gvdl_syntax.specs.declared.token.Token.TheVariants as token
 use Rattle.gvdl_syntax.specs.declared.token.Word.TheVariants as words
-use Rattle.gvdl_syntax.specs.declared.token.Sign.TheVariants as signs
-use Rattle.gvdl_syntax.specs.Form.{item, atom}
-use Rattle.gvdl_syntax.specs.Reading.{after_items, after_predicate}
+use Rattle.gvdl_syntax.specs.Form.{atom}
+use Rattle.gvdl_syntax.specs.Reading.{after_predicate}
 use Rattle.gvdl_syntax.proofs.Chains.{Front}
 use Rattle.gvdl_syntax.proofs.parser.atoms.Given as goal
 

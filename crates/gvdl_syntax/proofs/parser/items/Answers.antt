@@ -1,4 +1,4 @@
-use Rattle.std.proofs.Common.{◌≡◌, ◌≢◌, ◌∙◌, sym, ap, rules, List, [], ◌∷◌, ◌++◌}
+use Rattle.std.proofs.Common.{◌∙◌, ap, rules, List, [], ◌∷◌, ◌++◌}
 use Rattle.gvdl_syntax.specs.declared.tree.Item.{Item}
 use Rattle.gvdl_syntax.proofs.Reading.{passed_on}
 use Rattle.gvdl_syntax.proofs.Chains.{chain_stuck, chain_first, chain_next, chain_fails, chain_done}

@@ -1,6 +1,4 @@
-use Rattle.std.proofs.Common.{◌≡◌, Err, List, refl, sym, ap, subst, rules}
-use Rattle.std.specs.Prelude.{IfOk, IsTrue}
-use Rattle.std.specs.Str.{IsUtf8}
+use Rattle.std.proofs.Common.{Err, List, refl, sym, ap, subst}
 use Rattle.gvdl_syntax.specs.declared.token.Token.{Token}
 use Rattle.gvdl_syntax.specs.Lexing.{AreTheTokens}
 use Rattle.gvdl_syntax.proofs.Trees.{same_fault, script_found, script_only, script_none}
