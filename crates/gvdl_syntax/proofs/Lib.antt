@@ -1,0 +1,10 @@
+pub mod Runs
+pub mod Fronts
+pub mod Whole
+pub mod Utf8
+pub mod Lexemes
+pub mod Numbers
+pub mod Reading
+pub mod Chains
+pub mod Links
+pub mod Trees
