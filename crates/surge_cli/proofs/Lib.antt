@@ -1,0 +1,4 @@
+pub mod Fronts
+pub mod Folds
+pub mod Growing
+pub mod Options
