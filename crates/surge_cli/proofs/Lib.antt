@@ -2,3 +2,5 @@ pub mod Fronts
 pub mod Folds
 pub mod Growing
 pub mod Options
+pub mod ViewEdges
+pub mod Written

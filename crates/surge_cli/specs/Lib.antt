@@ -5,3 +5,6 @@ pub mod Truth
 pub mod Hops
 pub mod TableText
 pub mod Planning
+pub mod Output
+pub mod StatusText
+pub mod Expected

@@ -6,5 +6,9 @@ mod hops;
 mod plan;
 mod predicate;
 mod reading;
+mod session;
+mod status;
 mod table;
 mod words;
+
+pub use status::{FileRole, Status, Unbuilt};
