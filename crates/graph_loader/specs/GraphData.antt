@@ -1,5 +1,5 @@
 -- What contracts see of a graph: lists in the order of the files.
-use Rattle.std.specs.Prelude.{ℕ, ℤ, ◌+◌, ◌^◌, ◌≤◌, ◌<◌, ◌≡◌, nat_lt, if◌then◌else◌, List, [], ◌∷◌, length, map, get_or, Option, Some, None}
+use Rattle.std.specs.Prelude.{ℕ, ℤ, ◌+◌, ◌^◌, ◌≤◌, ◌<◌, ◌≡◌, nat_le, if◌then◌else◌, List, [], ◌∷◌, length, map, get_or, Option, Some, None}
 use Rattle.graph_loader.specs.declared.number.NodeNo.{NodeNo}
 use Rattle.graph_loader.specs.declared.cell.Column.{Column}
 use Rattle.graph_loader.specs.declared.cell.Cells.{Cells}
@@ -43,10 +43,10 @@ edge_cell_of g e column = cell_in (get_or g.edge_cells column no_cells) e
 
 -- ---- order by id
 
--- a node, as its id and its number, put in front of the first of greater id
+-- a node, as its id and its number, put in front of the first whose id isn't smaller
 abbrev pub insert_by_id : ℕ × ℕ → List (ℕ × ℕ) → List (ℕ × ℕ)
 insert_by_id x [] = x ∷ []
-insert_by_id x (y ∷ ys) = if nat_lt x.0 y.0 then x ∷ (y ∷ ys) else y ∷ insert_by_id x ys
+insert_by_id x (y ∷ ys) = if nat_le x.0 y.0 then x ∷ (y ∷ ys) else y ∷ insert_by_id x ys
 
 abbrev pub sorted_by_id : List (ℕ × ℕ) → List (ℕ × ℕ)
 sorted_by_id [] = []

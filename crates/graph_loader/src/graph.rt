@@ -1,12 +1,14 @@
 //! The property graph.
 
 ghost use Rattle.std.specs.Prelude.{◌≡◌, ◌<◌, ◌≤◌, ◌^◌, length, slice_get, IfOk};
-ghost use Rattle.graph_loader.specs.GraphData.{ends_of, id_of, edge_cell_of, nodes_by_id};
+ghost use Rattle.graph_loader.specs.GraphData.{ends_of, id_of, edge_cell_of, nodes_by_id, IsGraphData};
 
+use crate::by_id::order_by_id;
 use crate::cell::{CellRef, Cells, Column};
 use crate::number::{EdgeNo, NodeNo};
+use std::alloc::Global;
 use std::marker::Model;
-use surge_outside::List;
+use surge_outside::{List, NoMemory};
 
 /// A property graph that nothing changes. Nodes and edges are numbered from 0 in the order of the files.
 #[derive(Debug, Drop)]
@@ -31,6 +33,28 @@ impl Model for Graph {
 }
 
 impl Graph {
+    /// The graph with these nodes, by their ids, and these edges, by their ends, with one list of cells for each column.
+    /// It takes the time of a sort of the nodes. The one error is want of memory.
+    pub fn new(
+        alloc: Global,
+        ids: List<u64>,
+        ends: List<(NodeNo, NodeNo)>,
+        edge_columns: List<Column>,
+        edge_cells: List<Cells>,
+    ) -> Result<Graph, NoMemory>
+        requires { IsGraphData record { ids = ids; ends = ends; edge_columns = edge_columns; edge_cells = edge_cells } }
+        ensures { IfOk result (λ g. g ≡ record { ids = ids; ends = ends; edge_columns = edge_columns; edge_cells = edge_cells }) }
+    {
+        let by_id = order_by_id(alloc, ids.as_slice())?;
+        Ok(Graph {
+            ids,
+            ends,
+            edge_columns,
+            edge_cells,
+            by_id,
+        })
+    }
+
     /// How many nodes there are, at most 1,000,000.
     pub fn node_count(&self) -> u32
         ensures count { result ≡ length self.now.ids }

@@ -9,15 +9,33 @@
 #![tactic(auto)]
 
 mod boxed;
+mod calls;
 mod counted;
+mod disk_files;
+mod files;
 mod list;
+mod memory_files;
+mod memory_sink;
 mod no_memory;
 mod record;
+mod sink;
+mod std_sink;
 mod text;
+mod trouble;
 
 pub use boxed::Boxed;
 pub use counted::{Counted, Steps};
+pub use disk_files::DiskFiles;
+pub use files::{Fetched, Files};
 pub use list::List;
+pub use memory_files::{MemoryFiles, SureFiles};
+pub use memory_sink::{MemorySink, SureSink};
 pub use no_memory::NoMemory;
 pub use record::Record;
+pub use sink::{Sink, put_all};
+pub use std_sink::StdSink;
 pub use text::Text;
+pub use trouble::Trouble;
+
+#[cfg(test)]
+mod tests;

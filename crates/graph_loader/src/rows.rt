@@ -1,0 +1,54 @@
+//! The records of a data file, one after the other.
+
+ghost use Rattle.std.specs.Prelude.{◌≡◌, IfOk, OnOk};
+ghost use Rattle.csv.specs.Records.{fields_of};
+ghost use Rattle.graph_loader.specs.DataFiles.{records_of};
+ghost use Rattle.graph_loader.specs.RowsLeft.{IsReady, left_of, given};
+
+use csv::{ByteRecord, Reader, ReaderBuilder, Trim};
+use std::alloc::Global;
+use surge_outside::NoMemory;
+
+/// The records of a data file (RFC 4180, of any width), read one at a time into one place.
+#[derive(Drop)]
+pub(crate) struct Rows<'a> {
+    reader: Reader<&'a [u8]>,
+    row: ByteRecord,
+}
+
+impl<'a> Rows<'a> {
+    /// The records of these bytes, with none read yet.
+    pub(crate) fn new(alloc: Global, bytes: &'a [u8]) -> Rows<'a>
+        ensures ready { IsReady result.reader }
+        ensures left { left_of result.reader ≡ records_of bytes.now }
+    {
+        let reader = ReaderBuilder::new()
+            .has_headers(false)
+            .flexible(true)
+            .trim(Trim::None)
+            .from_reader(alloc, bytes);
+        Rows {
+            reader,
+            row: ByteRecord::new(alloc),
+        }
+    }
+
+    /// Reads the next record, and says whether there was one. Nothing can be read after an error.
+    pub(crate) fn advance(&mut self) -> Result<bool, NoMemory>
+        requires { IsReady self.old.reader }
+        ensures ready { OnOk result (IsReady self.new.reader) }
+        ensures row { IfOk result (λ found. left_of self.old.reader ≡ given found (fields_of self.new.row) (left_of self.new.reader)) }
+    {
+        // A slice can be read without fail and a record may have any width, so what is refused is memory.
+        self.reader
+            .read_byte_record(&mut self.row)
+            .map_err(|_| NoMemory)
+    }
+
+    /// The record that was read last.
+    pub(crate) fn row(&self) -> &ByteRecord
+        ensures { result.now ≡ self.now.row }
+    {
+        &self.row
+    }
+}

@@ -1,0 +1,4 @@
+use Rattle.vertex_lang.proofs.tests.hops_run.Given as goal
+
+abbrev pub ghosts-counted_run : goal.ghosts-counted_run
+ghosts-counted_run a = record { name = a.blank.name; parts = a.blank.parts }

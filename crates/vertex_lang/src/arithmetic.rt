@@ -1,0 +1,89 @@
+//! Arithmetic of values.
+
+ghost use Rattle.std.specs.Prelude.{◌≡◌, ◌<ℤ◌, ◌≤ℤ◌, pos, negsuc};
+ghost use Rattle.vertex_lang.specs.Values.{clamped, added, lesser, in_range, compares, number_compares, exact_sum};
+
+use crate::program::Cmp;
+use graph_loader::Val;
+
+/// The greatest number that a value can be, 2^63 - 1. The least one is its negation.
+const GREATEST: i64 = i64::MAX;
+
+// A number brought into the range of values.
+fn clamp_number(number: i128) -> i64
+    ensures { result ≡ clamped number }
+{
+    if number > i128::from(GREATEST) {
+        GREATEST
+    } else if number < -i128::from(GREATEST) {
+        -GREATEST
+    } else {
+        number as i64
+    }
+}
+
+/// The sum (true) or the difference (false), clamped. Of none it is none.
+pub(crate) fn add(plus: bool, left: Val, right: Val) -> Val
+    ensures { result ≡ added plus left right }
+{
+    match (left, right) {
+        (Val::Num(a), Val::Num(b)) => Val::Num(clamp_number(exact(plus, a, b))),
+        _ => Val::Nil,
+    }
+}
+
+// The sum (true) or the difference (false), as it is.
+fn exact(plus: bool, a: i64, b: i64) -> i128
+    ensures { result ≡ exact_sum plus a b }
+{
+    if plus {
+        i128::from(a) + i128::from(b)
+    } else {
+        i128::from(a) - i128::from(b)
+    }
+}
+
+/// The lesser of two values, where none is not counted.
+pub(crate) fn lesser_of(left: Val, right: Val) -> Val
+    ensures { result ≡ lesser left right }
+{
+    match (left, right) {
+        (Val::Nil, _) => right,
+        (_, Val::Nil) => left,
+        (Val::Num(a), Val::Num(b)) => Val::Num(a.min(b)),
+    }
+}
+
+/// The value with its number clamped.
+pub(crate) fn clamp(value: Val) -> Val
+    ensures { result ≡ in_range value }
+{
+    match value {
+        Val::Nil => Val::Nil,
+        Val::Num(number) => Val::Num(clamp_number(i128::from(number))),
+    }
+}
+
+// Whether two numbers compare so.
+fn compare_numbers(sign: Cmp, a: i64, b: i64) -> bool
+    ensures { result ≡ number_compares sign a b }
+{
+    match sign {
+        Cmp::Eq => a == b,
+        Cmp::Ne => a != b,
+        Cmp::Lt => a < b,
+        Cmp::Le => a <= b,
+        Cmp::Gt => a > b,
+        Cmp::Ge => a >= b,
+    }
+}
+
+/// Whether two values compare so. With none on either side they do not.
+pub(crate) fn compare(sign: Cmp, left: Val, right: Val) -> bool
+    ensures { result ≡ compares sign left right }
+{
+    match (left, right) {
+        (Val::Num(a), Val::Num(b)) => compare_numbers(sign, a, b),
+        _ => false,
+    }
+}

@@ -1,0 +1,138 @@
+//! The plain run of a program.
+
+ghost use Rattle.std.specs.Prelude.{◌≡◌, ◌<◌, ◌≤◌, ◌+◌, ◌*◌, ◌^◌, length, map, All, IfOk};
+ghost use Rattle.vertex_lang.specs.Leaves.{IsChecked};
+ghost use Rattle.vertex_lang.specs.Expressions.{start_of};
+ghost use Rattle.vertex_lang.specs.Arcs.{IsArc};
+ghost use Rattle.vertex_lang.specs.Rounds.{nodes_of, lone};
+ghost use Rattle.vertex_lang.specs.Mail.{HasDegrees, RunsTo};
+ghost use Rattle.vertex_lang.specs.Lone.{number_of, answer_of, IsAnswer, OutcomeIs, HasAllValues};
+
+use crate::arc::Arc;
+use crate::mail::{Mail, count_degrees, empty_mail};
+use crate::program::Program;
+use crate::round::{advance, start_values};
+use crate::updater::Updater;
+use graph_loader::{Graph, Val};
+use std::alloc::Global;
+use surge_outside::{List, NoMemory};
+
+/// How long a run may go on.
+#[derive(Clone, Copy, Debug, PartialEq, Eq)]
+pub enum Rounds {
+    /// Until nothing changes, and so many rounds at most, from 1 to 1,000,000.
+    Within(u32),
+}
+
+/// How a run ended.
+#[derive(Clone, Copy, Debug, PartialEq, Eq)]
+pub enum Outcome {
+    /// After this number of rounds, the least after which one more round changes nothing.
+    Settled(u32),
+    /// Each of the rounds allowed changed something.
+    Unsettled,
+}
+
+/// The answer of a plain run: how it ended, and the value of each node by its number (no values where it is unsettled).
+#[derive(Debug, Drop)]
+pub struct Lone {
+    pub outcome: Outcome,
+    pub values: List<Val>,
+}
+
+/// Runs a program alone, round by round, over these arcs. All nodes change together, from their start values on. The
+/// run stops where nothing changes, so it costs the arcs and nodes once for each round until then. It calls the updater
+/// at most once for each node and round.
+pub fn lone_run<U: Updater>(
+    alloc: Global,
+    program: &Program,
+    graph: &Graph,
+    arcs: &[Arc],
+    rounds: Rounds,
+    updater: &mut U,
+) -> Result<Lone, NoMemory>
+    requires checked { IsChecked program.now graph.now }
+    requires arcs { All (IsArc graph.now) arcs.now }
+    requires few { length arcs.now < 2 ^ 32 }
+    requires some { 1 ≤ number_of rounds }
+    requires limit { number_of rounds ≤ 1_000_000 }
+    ensures answer { IfOk result (λ l. l ≡ answer_of U.answer program.now graph.now arcs.now rounds) }
+    ensures meaning { IfOk result (λ l. IsAnswer U.answer program.now graph.now arcs.now rounds l) }
+    ensures size { IfOk result (λ l. HasAllValues graph.now l) }
+    ensures steps { U.calls updater.new ≤ U.calls updater.old + length graph.now.ids * number_of rounds }
+    ensures falls { U.calls updater.old ≤ U.calls updater.new }
+{
+    match rounds {
+        Rounds::Within(limit) => run_within(alloc, program, graph, arcs, limit, updater),
+    }
+}
+
+// Runs until nothing changes, and so many rounds at most.
+fn run_within<U: Updater>(
+    alloc: Global,
+    program: &Program,
+    graph: &Graph,
+    arcs: &[Arc],
+    limit: u32,
+    updater: &mut U,
+) -> Result<Lone, NoMemory>
+    requires checked { IsChecked program.now graph.now }
+    requires arcs { All (IsArc graph.now) arcs.now }
+    requires few { length arcs.now < 2 ^ 32 }
+    ensures meaning { IfOk result (λ l. OutcomeIs (lone U.answer program.now graph.now arcs.now) limit l.outcome l.values) }
+    ensures steps { U.calls updater.new ≤ U.calls updater.old + length graph.now.ids * limit }
+    ensures falls { U.calls updater.old ≤ U.calls updater.new }
+{
+    let degrees = count_degrees(alloc, graph, arcs)?;
+    let starts = start_values(alloc, program, graph)?;
+    let mut mail = empty_mail(alloc, graph)?;
+    let mut values = Vec::from_slice(alloc, &starts)?;
+    let outcome = run_rounds(
+        program,
+        graph,
+        arcs,
+        &degrees,
+        &starts,
+        limit,
+        &mut mail,
+        &mut values,
+        updater,
+    );
+    let values = match outcome {
+        Outcome::Settled(_) => List::from_vec(values),
+        Outcome::Unsettled => List::new(alloc),
+    };
+    Ok(Lone { outcome, values })
+}
+
+// Takes the values on from the start until nothing changes, and so many rounds at most.
+fn run_rounds<U: Updater>(
+    program: &Program,
+    graph: &Graph,
+    arcs: &[Arc],
+    degrees: &[u64],
+    starts: &[Val],
+    limit: u32,
+    mail: &mut [Mail],
+    values: &mut [Val],
+    updater: &mut U,
+) -> Outcome
+    requires checked { IsChecked program.now graph.now }
+    requires arcs { All (IsArc graph.now) arcs.now }
+    requires few { length arcs.now < 2 ^ 32 }
+    requires degrees { HasDegrees arcs.now degrees.now }
+    requires degrees_size { length degrees.now ≡ length graph.now.ids }
+    requires starts { starts.now ≡ map (start_of program.now graph.now) (nodes_of graph.now) }
+    requires mail_size { length mail.old ≡ length graph.now.ids }
+    requires values { values.old ≡ starts.now }
+    ensures outcome { RunsTo (lone U.answer program.now graph.now arcs.now) limit result values.new }
+    ensures steps { U.calls updater.new ≤ U.calls updater.old + length graph.now.ids * limit }
+    ensures falls { U.calls updater.old ≤ U.calls updater.new }
+{
+    for round in 0..limit {
+        if !advance(program, graph, arcs, degrees, starts, mail, values, updater) {
+            return Outcome::Settled(round);
+        }
+    }
+    Outcome::Unsettled
+}
