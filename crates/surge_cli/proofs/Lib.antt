@@ -4,3 +4,5 @@ pub mod Growing
 pub mod Options
 pub mod ViewEdges
 pub mod Written
+pub mod HopsChecked
+pub mod Expecting

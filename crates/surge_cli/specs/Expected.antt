@@ -2,9 +2,9 @@
 -- refusal in this order is the answer: the words; the script fetched, and read; the nodes fetched; the edges fetched; the
 -- nodes and the edges read; the script checked against its graph.
 use Rattle.std.specs.Prelude.{◌≡◌, ◌⊎◌, ℕ, ◌^◌, nat_lt, Bool, true, false, List, length, Option, Some, None}
-use Rattle.surge_outside.specs.Ends.{file_at}
+use Rattle.surge_outside.specs.Held.{file_at}
 use Rattle.graph_loader.specs.GraphData.{GraphData}
-use Rattle.graph_loader.specs.Spelled.{ids_of, graph_of}
+use Rattle.graph_loader.specs.DataFiles.{ids_of, graph_of}
 use Rattle.gvdl_syntax.specs.declared.tree.Script.{Script}
 use Rattle.gvdl_syntax.specs.Script.{IsScript}
 use Rattle.surge_cli.specs.declared.status.FileRole.TheVariants as role
@@ -44,19 +44,17 @@ abbrev pub ExpectsPlan : Option Plan → GraphData → Expectation → Type 0
 ExpectsPlan None graph e = e ≡ Expectation.refused (status.NotBuilt unbuilt.Script)
 ExpectsPlan (Some plan) graph e = e ≡ Expectation.runs plan graph
 
-abbrev pub ExpectsGraph : Script → Option GraphData → Expectation → Type 0
-ExpectsGraph script None e = e ≡ Expectation.refused (status.NotBuilt unbuilt.Edges)
-ExpectsGraph script (Some graph) e = ExpectsPlan (plan script graph) graph e
-
-abbrev pub ExpectsNodes : Script → Option (List ℕ) → Option GraphData → Expectation → Type 0
-ExpectsNodes script None graph e = e ≡ Expectation.refused (status.NotBuilt unbuilt.Nodes)
-ExpectsNodes script (Some ids) graph e = ExpectsGraph script graph e
+-- the graph that the data spell; without one it is the nodes' fault, or else the edges'
+abbrev pub ExpectsGraph : Script → Option (List ℕ) → Option GraphData → Expectation → Type 0
+ExpectsGraph script ids (Some graph) e = ExpectsPlan (plan script graph) graph e
+ExpectsGraph script None None e = e ≡ Expectation.refused (status.NotBuilt unbuilt.Nodes)
+ExpectsGraph script (Some ids) None e = e ≡ Expectation.refused (status.NotBuilt unbuilt.Edges)
 
 abbrev pub ExpectsData : Held → Script → Expectation → Type 0
 ExpectsData held script =
     fetched (file_at held script.nodes) data_limit (status.Absent role.Nodes) (status.NotBuilt unbuilt.Nodes) (λ nodes.
     fetched (file_at held script.edges) data_limit (status.Absent role.Edges) (status.NotBuilt unbuilt.Edges) (λ edges.
-    ExpectsNodes script (ids_of nodes) (graph_of nodes edges)))
+    ExpectsGraph script (ids_of nodes) (graph_of nodes edges)))
 
 -- ---- the script
 

@@ -8,3 +8,5 @@ pub mod Planning
 pub mod Output
 pub mod StatusText
 pub mod Expected
+pub mod Stages
+pub mod HopsPlan

@@ -1,7 +1,9 @@
 //! Checks a script against its graph.
 
-ghost use Rattle.std.specs.Prelude.{◌≡◌, ◌&&◌, not, nat_le, map, length, bytes_eq, codes, IfOk, ℤ, ◌∷◌};
+ghost use Rattle.std.specs.Prelude.{◌≡◌, ◌&&◌, not, nat_le, map, length, bytes_eq, codes, IfOk, IfSome, IsTrue, ℤ, ◌∷◌};
 ghost use Rattle.std.specs.List.{list_any};
+ghost use Rattle.surge_cli.specs.Output.{IsPlan};
+ghost use Rattle.surge_cli.specs.HopsPlan.{IsHopsPlan};
 ghost use Rattle.surge_cli.specs.Planning.{is_among, have_distinct_names, built_in, column_from, checked_place, checked_comparison, checked, all_some, planned_view, are_views, source_of, are_rounds, call_text, are_names, planned_run, plan};
 
 use crate::hops::hops;
@@ -230,7 +232,9 @@ fn planned(
     call: &Call,
     number: u32,
 ) -> Result<Option<Plan>, NoMemory>
-    ensures { IfOk result (λ plan. plan ≡ planned_run columns.now name.now items.now call.now number) }
+    requires { IsTrue (are_rounds number) }
+    ensures plan { IfOk result (λ plan. plan ≡ planned_run columns.now name.now items.now call.now number) }
+    ensures program { IfOk result (λ plan. IfSome plan IsHopsPlan) }
 {
     let Some(source) = source_of(call) else {
         return Ok(None);
@@ -253,7 +257,8 @@ pub(crate) fn check(
     script: &Script,
     graph: &Graph,
 ) -> Result<Option<Plan>, NoMemory>
-    ensures { IfOk result (λ p. p ≡ plan script.now graph.now) }
+    ensures plan { IfOk result (λ p. p ≡ plan script.now graph.now) }
+    ensures fits { IfOk result (λ p. IfSome p (IsPlan graph.now)) }
 {
     match script.statements.as_slice() {
         [

@@ -7,6 +7,7 @@ mod plan;
 mod predicate;
 mod reading;
 mod session;
+mod stages;
 mod status;
 mod table;
 mod words;

@@ -1,7 +1,8 @@
 //! Runs a plan and writes its tables.
 
 ghost use Rattle.std.specs.Prelude.{◌≡◌, ◌<◌, ◌≤◌, string_bytes, length, All, IfOk, OnOk, OnErr, vec_len};
-ghost use Rattle.surge_outside.specs.Ends.{HasRisen, PutAll, appended};
+ghost use Rattle.surge_outside.specs.Counts.{HasRisen};
+ghost use Rattle.surge_outside.specs.Written.{GrewByFront, appended};
 ghost use Rattle.surge_cli.specs.Output.{view_edges, view_answer, view_text, output, IsPlan};
 ghost use Rattle.vertex_lang.specs.Lone.{HasAllValues};
 
@@ -85,7 +86,7 @@ fn run_view<O: Sink, U: Updater>(
 ) -> Result<(), Trouble>
     requires { IsPlan graph.now plan.now }
     ensures ok { OnOk result (O.written out.new ≡ appended (O.written out.old) (view_text U.answer plan.now graph.now view.now)) }
-    ensures err { OnErr result (PutAll (O.written out.old) (O.written out.new) (view_text U.answer plan.now graph.now view.now)) }
+    ensures err { OnErr result (GrewByFront (O.written out.old) (O.written out.new) (view_text U.answer plan.now graph.now view.now)) }
     ensures faults { O.faults out.old ≤ O.faults out.new }
     ensures failed { result ≡ Err Trouble.Failed → HasRisen (O.faults out.old) (O.faults out.new) }
 {
@@ -105,7 +106,7 @@ pub(crate) fn run_plan<O: Sink, U: Updater>(
 ) -> Result<(), Trouble>
     requires { IsPlan graph.now plan.now }
     ensures ok { OnOk result (O.written out.new ≡ appended (O.written out.old) (output U.answer plan.now graph.now)) }
-    ensures err { OnErr result (PutAll (O.written out.old) (O.written out.new) (output U.answer plan.now graph.now)) }
+    ensures err { OnErr result (GrewByFront (O.written out.old) (O.written out.new) (output U.answer plan.now graph.now)) }
     ensures faults { O.faults out.old ≤ O.faults out.new }
     ensures failed { result ≡ Err Trouble.Failed → HasRisen (O.faults out.old) (O.faults out.new) }
 {

@@ -1,5 +1,5 @@
 use Rattle.std.proofs.Common.{◌≡◌, ◌≤◌, flat_map, take}
-use Rattle.surge_outside.specs.Ends.{appended}
+use Rattle.surge_outside.specs.Written.{appended}
 use Rattle.surge_cli.specs.Output.{view_text}
 use Rattle.surge_cli.proofs.session.run_plan.Given as goal
 
