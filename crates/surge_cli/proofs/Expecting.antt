@@ -2,6 +2,8 @@
 use Rattle.std.proofs.Common.{◌≡◌, ◌∙◌, ◌≤◌, ◌<◌, ℕ, Bool, true, false, List, length, Option, Some, None, refl, sym, ap, subst, inl, inr, IsSome}
 use Rattle.std.specs.Prelude.{nat_lt}
 use Rattle.std.proofs.lemmas.Bool.{le-ltb, lt-ltb}
+use Rattle.std.proofs.Common.{arith}
+use Rattle.surge_outside.specs.Counts.{HasRisen}
 use Rattle.surge_outside.specs.Held.{file_at}
 use Rattle.graph_loader.specs.GraphData.{GraphData}
 use Rattle.graph_loader.specs.DataFiles.{ids_of, graph_of}
@@ -18,7 +20,7 @@ use Rattle.surge_cli.specs.Words.{NameScript}
 use Rattle.surge_cli.specs.Reading.{Told, IsLonger}
 use Rattle.surge_cli.specs.Planning.{plan}
 use Rattle.surge_cli.specs.Expected.{Held, Expectation, within, fetched, ExpectsPlan, ExpectsGraph, ExpectsData, IsTheScript, ExpectsNoScript, ExpectsOfScript, ExpectsText, ExpectsNoWords, ExpectsOfName, Expects, script_limit, data_limit}
-use Rattle.surge_cli.specs.Stages.{limit_of, unbuilt_of, IsFetched, StopsFetch, StopsParse, StopsLoad, StopsCheck, Refuses, RefusesHere, Admits, HasData, HasScript}
+use Rattle.surge_cli.specs.Stages.{limit_of, unbuilt_of, IsFetched, StopsFetch, StopsParse, StopsLoad, StopsCheck, Refuses, RefusesHere, Admits, RisesBefore, HasData, HasScript}
 
 -- ---- a file
 
@@ -210,3 +212,16 @@ data_admits held words script p g has h = admits_map (λ files. ExpectsData file
 pub words_refuse : (held : Option Held) (words : List (List ℕ)) → ((name : List ℕ) → NameScript words name → ⊥) → Refuses (λ files. Expects files words) held (status.NotBuilt unbuilt.Words)
 words_refuse None words h = tt
 words_refuse (Some files) words h = inl (record { none = h; refusal = refl })
+
+-- ---- counts
+
+later : (a b c : ℕ) → a ≤ b → HasRisen b c → HasRisen a c
+later a b c le h = omega arith
+
+pub rises_later : (s : Status) (a b c f g h : ℕ) → a ≤ b → f ≤ g → RisesBefore s b c g h → RisesBefore s a c f h
+rises_later status.Done a b c f g h le le2 r = tt
+rises_later (status.Absent role) a b c f g h le le2 r = later a b c le r
+rises_later status.ReadFault a b c f g h le le2 r = later f g h le2 r
+rises_later status.WriteFault a b c f g h le le2 r = tt
+rises_later status.NoMemory a b c f g h le le2 r = tt
+rises_later (status.NotBuilt what) a b c f g h le le2 r = tt

@@ -6,3 +6,5 @@ pub mod ViewEdges
 pub mod Written
 pub mod HopsChecked
 pub mod Expecting
+pub mod Endings
+pub mod Deciding

@@ -10,3 +10,4 @@ pub mod StatusText
 pub mod Expected
 pub mod Stages
 pub mod HopsPlan
+pub mod Answers
