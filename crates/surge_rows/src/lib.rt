@@ -13,6 +13,7 @@ use surge_cli::{Status, surge};
 use surge_outside::{List, MemoryFiles, MemorySink, Steps, Text};
 
 /// The names and bytes of files in memory.
+#[derive(Clone, Copy)]
 pub struct Names<'a> {
     pub script: &'a str,
     pub nodes: &'a str,
@@ -110,7 +111,14 @@ pub fn run_memory<L: Ledger>(
     let mut out = MemorySink::new(alloc, ends.piece, failing(alloc, ends.write)?);
     let mut err = MemorySink::new(alloc, ends.piece, failing(alloc, ends.report)?);
     let words = words(alloc)?;
-    let status = run_over::<L>(alloc, blank, words.as_slice(), &mut files, &mut out, &mut err);
+    let status = run_over::<L>(
+        alloc,
+        blank,
+        words.as_slice(),
+        &mut files,
+        &mut out,
+        &mut err,
+    );
     Ok(Left {
         status,
         out: Vec::from_slice(alloc, out.bytes())?,
