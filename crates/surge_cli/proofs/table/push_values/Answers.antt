@@ -1,0 +1,19 @@
+-- One more line.
+use Rattle.std.proofs.Common.{◌≡◌, ◌∙◌, ◌++◌, ◌<◌, length, string_bytes, List, ℕ, ap, sym, arith, get_or}
+use Rattle.graph_loader.specs.GraphData.{nodes_by_id, id_of}
+use Rattle.graph_loader.specs.declared.value.Val.{Val}
+use Rattle.graph_loader.specs.declared.value.Val.TheVariants.{Nil}
+use Rattle.surge_cli.specs.TableText.{node_line, value_line}
+use Rattle.surge_cli.proofs.Growing.{grown}
+use Rattle.surge_cli.proofs.table.push_values.Goals as goal
+
+pub loop-i-preserved : goal.loop-i-preserved
+loop-i-preserved c =
+    let graph = c.args.graph.now in
+    let value : Val = get_or c.args.values.now c.by_id-node.result.0 Nil in
+    record {
+      all = c.loop-i.invariant.all;
+      lines = grown (node_line graph c.args.values.now) (nodes_by_id graph.ids) c.loop-i.i c.by_id-node.result (string_bytes c.args.text.now) (string_bytes c.loop-i.text) (string_bytes c.push_value.new.text)
+          (omega (arith, c.loop-i-test.true, c.loop-i.invariant.all)) c.by_id-node.ensures.place c.loop-i.invariant.lines
+          (c.in_ok-push_value.ensures ∙ ap (λ (id : ℕ). string_bytes c.loop-i.text ++ value_line id value) c.id.ensures.value);
+    }

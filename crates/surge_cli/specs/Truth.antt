@@ -1,0 +1,41 @@
+-- The truth of a predicate at an edge, by cases on its tree.
+use Rattle.std.specs.Prelude.{◌≡◌, ℕ, ℤ, int_lt, int_le, nat_lt, Bool, true, false, not, if◌then◌else◌, List, length}
+use Rattle.std.specs.Ordering.{int_eq}
+use Rattle.std.specs.List.{list_any}
+use Rattle.graph_loader.specs.GraphData.{GraphData, edge_cell_of}
+use Rattle.graph_loader.specs.declared.cell.CellRef.{CellRef}
+use Rattle.graph_loader.specs.declared.cell.CellRef.TheVariants as cell
+use Rattle.gvdl_syntax.specs.declared.tree.Cmp.{Cmp}
+use Rattle.gvdl_syntax.specs.declared.tree.Cmp.TheVariants as cmp
+use Rattle.surge_cli.specs.declared.predicate.Place.{Place}
+use Rattle.surge_cli.specs.declared.predicate.Place.TheVariants as place
+use Rattle.surge_cli.specs.declared.predicate.Pred.{Pred}
+use Rattle.surge_cli.specs.declared.predicate.Pred.TheOpen.{Pred-F}
+use Rattle.surge_cli.specs.declared.predicate.Pred.TheFolds.{fold-Pred}
+
+abbrev pub numbers_compare : Cmp → ℤ → ℤ → Bool
+numbers_compare cmp.Eq a b = int_eq a b
+numbers_compare cmp.Ne a b = not (int_eq a b)
+numbers_compare cmp.Lt a b = int_lt a b
+numbers_compare cmp.Le a b = int_le a b
+numbers_compare cmp.Gt a b = int_lt b a
+numbers_compare cmp.Ge a b = int_le b a
+
+-- with an absent cell on either side a comparison is false
+abbrev pub cells_compare : Cmp → CellRef → CellRef → Bool
+cells_compare sign cell.Absent b = false
+cells_compare sign (cell.Int a) cell.Absent = false
+cells_compare sign (cell.Int a) (cell.Int b) = numbers_compare sign a b
+
+-- the cell of a place at an edge; a column that the graph lacks is absent
+abbrev pub place_cell : GraphData → ℕ → Place → CellRef
+place_cell g e (place.Number z) = cell.Int z
+place_cell g e (place.Edge column) = if nat_lt column (length g.edge_columns) then edge_cell_of g e column else cell.Absent
+
+abbrev pub truth_of : GraphData → ℕ → Pred-F Bool → Bool
+truth_of g e (Pred-F.Or members) = list_any (λ holds. holds) members
+truth_of g e (Pred-F.Compare a sign b) = cells_compare sign (place_cell g e a) (place_cell g e b)
+
+-- whether the predicate holds of the edge with this number
+unfoldable pub truth : GraphData → ℕ → Pred → Bool
+truth g e = fold-Pred Bool (truth_of g e)

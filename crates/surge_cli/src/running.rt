@@ -1,0 +1,93 @@
+//! The program as one call.
+
+ghost use Rattle.std.specs.Prelude.{◌≡◌, ◌⊎◌, ◌≤◌, map, string_bytes, IfSome};
+ghost use Rattle.surge_cli.specs.Answers.{Answers, KeepsOutput, Rises, Matches, Reports};
+ghost use Rattle.surge_cli.specs.Expected.{Expectation, Expects};
+ghost use Rattle.surge_cli.specs.Words.{NameScript};
+
+use crate::session::run_plan;
+use crate::stages::prepare;
+use crate::status::Status;
+use std::alloc::Global;
+use surge_outside::{Files, Sink, Trouble, put_all};
+use vertex_lang::Updater;
+
+// Reads, runs and writes.
+fn run<F: Files, O: Sink, U: Updater>(
+    alloc: Global,
+    words: &[String],
+    files: &mut F,
+    out: &mut O,
+    updater: &mut U,
+) -> Status
+    ensures answer { IfSome (F.held files.old) (λ held. Answers U.answer held (map string_bytes words.now) result (O.written out.old) (O.written out.new)) }
+    ensures before { KeepsOutput result (O.written out.old) (O.written out.new) }
+    ensures counts { Rises result (F.absences files.old) (F.absences files.new) (F.faults files.old) (F.faults files.new) (O.faults out.old) (O.faults out.new) }
+{
+    match prepare(alloc, files, words) {
+        Ok((graph, plan)) => match run_plan(alloc, &plan, &graph, out, updater) {
+            Ok(()) => Status::Done,
+            Err(Trouble::Failed) => Status::WriteFault,
+            Err(Trouble::NoMemory) => Status::NoMemory,
+        },
+        Err(status) => status,
+    }
+}
+
+// Writes the line of an answer. Where it finds no memory for that, this is the answer.
+fn report_line<E: Sink>(status: Status, err: &mut E) -> Status
+    requires { status ≡ Status.Done → ⊥ }
+    ensures same { (result ≡ status) ⊎ (result ≡ Status.NoMemory) }
+    ensures line { Reports result (E.written err.old) (E.written err.new) (E.faults err.old) (E.faults err.new) }
+{
+    match put_all(err, status.line().as_bytes()) {
+        Ok(()) => status,
+        Err(Trouble::Failed) => status,
+        Err(Trouble::NoMemory) => Status::NoMemory,
+    }
+}
+
+// Writes the line of an answer, if it has one.
+fn report<E: Sink>(status: Status, err: &mut E) -> Status
+    ensures same { (result ≡ status) ⊎ ((result ≡ Status.NoMemory) × (status ≡ Status.Done → ⊥)) }
+    ensures line { Reports result (E.written err.old) (E.written err.new) (E.faults err.old) (E.faults err.new) }
+{
+    match status {
+        Status::Done => Status::Done,
+        _ => report_line(status, err),
+    }
+}
+
+/// Runs the program: reads the script that the words name and the two data files that it names, runs its vertex program
+/// alone on each view, and writes the tables to `out`. An answer other than [`Status::Done`] is reported to `err` as one
+/// line.
+///
+/// The words are the program's name, `--script` and the name of a file. What is told of the files decides the answer,
+/// unless the outside fails or memory is wanting: the first refusal in the order of reading, or the output. Views and
+/// collections of views are those of Graphsurge (Sahu and Salihoglu 2021).
+pub fn surge<F: Files, O: Sink, E: Sink, U: Updater>(
+    alloc: Global,
+    words: &[String],
+    files: &mut F,
+    out: &mut O,
+    err: &mut E,
+    updater: &mut U,
+) -> Status
+    // The headline: what each answer means, and what was written by then, for every updater.
+    ensures answer { IfSome (F.held files.old) (λ held. Answers U.answer held (map string_bytes words.now) result (O.written out.old) (O.written out.new)) }
+
+    // A refusal before the execution writes nothing, whether the files are told or not.
+    ensures before { KeepsOutput result (O.written out.old) (O.written out.new) }
+
+    // An absence, a read fault or a write fault is answered only where its count rose.
+    ensures counts { Rises result (F.absences files.old) (F.absences files.new) (F.faults files.old) (F.faults files.new) (O.faults out.old) (O.faults out.new) }
+
+    // What is expected of the files is the answer, unless it came from the outside.
+    ensures exact { IfSome (F.held files.old) (λ held. (e : Expectation) → Expects held (map string_bytes words.now) e → Matches result e) }
+
+    // One line on standard error, and none where the run is done.
+    ensures line { Reports result (E.written err.old) (E.written err.new) (E.faults err.old) (E.faults err.new) }
+{
+    let status = run(alloc, words, files, out, updater);
+    report(status, err)
+}
