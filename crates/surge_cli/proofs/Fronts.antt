@@ -27,28 +27,8 @@ piece_of (Some bytes) read after n front given =
     let piece : take n after ≡ take n front.0 = given.bytes ∙ ap (λ (x : List ℕ). take n x) (behind bytes read front.0 front.1) in
     (drop n front.0, front.1 ∙ ap (λ (x : List ℕ). read ++ x) (sym (take-append-drop n front.0)) ∙ sym (append_assoc read (take n front.0) (drop n front.0)) ∙ ap (λ (x : List ℕ). (read ++ x) ++ drop n front.0) (sym piece))
 
-no_rest : (bytes read rest : List ℕ) (n m : ℕ) → bytes ≡ read ++ rest → n ≡ 0 → 0 < m → (0 < m → 0 < length (drop (length read) bytes) → 0 < n) → bytes ≡ read
-no_rest bytes read [] n m e none room some = e ∙ append-nil read
-no_rest bytes read (b ∷ rest) n m e none room some = absurd (omega (arith, some room (omega (arith, ap (λ (x : List ℕ). length x) (behind bytes read (b ∷ rest) e)))))
-
-end_of : (told : Option (List ℕ)) (read after : List ℕ) (n : ℕ) → IsFront told read → 0 < length after → FetchesFrom told (length read) (fetched.Bytes n) after → n ≡ 0 → told ≡ Some read
-end_of None read after n front room given e = absurd given
-end_of (Some bytes) read after n front room given e = ap Some (no_rest bytes read front.0 n (length after) front.1 e room given.some)
-
-longer_of : (told : Option (List ℕ)) (read after : List ℕ) (n limit : ℕ) → FetchesFrom told (length read) (fetched.Bytes n) after → length read ≤ limit → limit - length read < n → (bytes : List ℕ) × (told ≡ Some bytes) × (limit < length bytes)
-longer_of None read after n limit given within more = absurd given
-longer_of (Some bytes) read after n limit given within more = (bytes, refl, omega (arith, given.left, length-drop (length read) bytes))
-
 -- ---- where the files may be told
 
 pub piece_read : (held : Option HeldFiles) (name read after : List ℕ) (n : ℕ) → IsToldFront held name read → Fetches held name (length read) (fetched.Bytes n) after → IsToldFront held name (read ++ take n after)
 piece_read None name read after n front given = tt
 piece_read (Some files) name read after n front given = piece_of (file_at files name) read after n front given
-
-pub end_read : (held : Option HeldFiles) (name read after : List ℕ) (n : ℕ) → IsToldFront held name read → 0 < length after → Fetches held name (length read) (fetched.Bytes n) after → n ≡ 0 → Told held name (Some read)
-end_read None name read after n front room given e = tt
-end_read (Some files) name read after n front room given e = end_of (file_at files name) read after n front room given e
-
-pub longer_read : (held : Option HeldFiles) (name read after : List ℕ) (n limit : ℕ) → Fetches held name (length read) (fetched.Bytes n) after → length read ≤ limit → limit - length read < n → IsLonger held name limit
-longer_read None name read after n limit given within more = tt
-longer_read (Some files) name read after n limit given within more = longer_of (file_at files name) read after n limit given within more

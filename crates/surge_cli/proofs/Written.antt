@@ -26,7 +26,8 @@ front_of_all f xs i x old mid new lt is so_far piece =
     let behind : List ℕ = flat_map f (drop (suc i) xs) in
     let whole : flat_map f xs ≡ before ++ (f x ++ behind) = split_at f xs i x lt is in
     let front : take (length before + piece.0) (flat_map f xs) ≡ before ++ take piece.0 (f x) =
-        ap (λ (t : List ℕ). take (length before + piece.0) t) whole ∙ middle before (f x) behind piece.0 piece.1 in
-    ( length before + piece.0,
+    ap (λ (t : List ℕ). take (length before + piece.0) t) whole ∙ middle before (f x) behind piece.0 piece.1 in (
+      length before + piece.0,
       omega (arith, ap (λ (t : List ℕ). length t) whole, length-append before (f x ++ behind), length-append (f x) behind, piece.1),
-      piece.2 ∙ ap (λ m. appended m (take piece.0 (f x))) so_far ∙ appended-append old before (take piece.0 (f x)) ∙ ap (λ (t : List ℕ). appended old t) (sym front) )
+      piece.2 ∙ ap (λ m. appended m (take piece.0 (f x))) so_far ∙ appended-append old before (take piece.0 (f x)) ∙ ap (λ (t : List ℕ). appended old t) (sym front),
+    )

@@ -252,11 +252,7 @@ fn planned(
 }
 
 /// The plan of a script against its graph, or none where a statement has a fault.
-pub(crate) fn check(
-    alloc: Global,
-    script: &Script,
-    graph: &Graph,
-) -> Result<Option<Plan>, NoMemory>
+pub(crate) fn check(alloc: Global, script: &Script, graph: &Graph) -> Result<Option<Plan>, NoMemory>
     ensures plan { IfOk result (λ p. p ≡ plan script.now graph.now) }
     ensures fits { IfOk result (λ p. IfSome p (IsPlan graph.now)) }
 {

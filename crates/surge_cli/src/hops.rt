@@ -11,7 +11,9 @@ use vertex_lang::{Along, Check, Cmp, Expr, Gather, Program};
 pub(crate) fn hops(alloc: Global, source: i64) -> Result<Program, NoMemory>
     ensures { IfOk result (λ p. p ≡ hops source) }
 {
-    let is_source = List::from_vec(vec![in alloc; Check::Compare(Expr::Id, Cmp::Eq, Expr::Number(source))]?);
+    let is_source = List::from_vec(vec![in alloc;
+        Check::Compare(Expr::Id, Cmp::Eq, Expr::Number(source)),
+    ]?);
     let one_more = List::from_vec(vec![in alloc; (true, Expr::Number(1))]?);
     Ok(Program {
         along: Along::Out,

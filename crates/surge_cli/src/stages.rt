@@ -162,11 +162,7 @@ fn plan_data<F: Files>(
 }
 
 // The script that the words name.
-fn fetch_script<F: Files>(
-    alloc: Global,
-    files: &mut F,
-    words: &[String],
-) -> Result<Script, Status>
+fn fetch_script<F: Files>(alloc: Global, files: &mut F, words: &[String]) -> Result<Script, Status>
     ensures ok { IfOk result (HasScript (F.held files.old) (map string_bytes words.now)) }
     ensures err { IfErr result (Refuses (λ held. Expects held (map string_bytes words.now)) (F.held files.old)) }
     ensures held { F.held files.new ≡ F.held files.old }

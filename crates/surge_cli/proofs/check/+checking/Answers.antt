@@ -20,13 +20,13 @@ all_checked-loop-tree-preserved t c =
 pub checked-returns-in-Some : goal.checked-returns-in-Some
 checked-returns-in-Some t c =
     let members : all_some (map (checked c.args.columns.now) c.in-Or.members) ≡ Some c.in-Some.members =
-        ap (λ (ts : List PredTree). all_some (map (checked c.args.columns.now) ts)) (sym c.as_slice.ensures) ∙ sym c.in_ok-members-in-Or.ensures ∙ c.in-Some.is in
+    ap (λ (ts : List PredTree). all_some (map (checked c.args.columns.now) ts)) (sym c.as_slice.ensures) ∙ sym c.in_ok-members-in-Or.ensures ∙ c.in-Some.is in
     sym (ap (λ (tree : PredTree). checked c.args.columns.now tree) c.in-Or.is ∙ checked-or c.args.columns.now c.in-Or.members ∙ ap (λ (o : Option (List Pred)). option_map (λ ps. pred.Or ps) o) members)
 
 pub checked-returns-in-None : goal.checked-returns-in-None
 checked-returns-in-None t c =
     let members : all_some (map (checked c.args.columns.now) c.in-Or.members) ≡ None =
-        ap (λ (ts : List PredTree). all_some (map (checked c.args.columns.now) ts)) (sym c.as_slice.ensures) ∙ sym c.in_ok-members-in-Or.ensures ∙ c.in-None.is in
+    ap (λ (ts : List PredTree). all_some (map (checked c.args.columns.now) ts)) (sym c.as_slice.ensures) ∙ sym c.in_ok-members-in-Or.ensures ∙ c.in-None.is in
     sym (ap (λ (tree : PredTree). checked c.args.columns.now tree) c.in-Or.is ∙ checked-or c.args.columns.now c.in-Or.members ∙ ap (λ (o : Option (List Pred)). option_map (λ ps. pred.Or ps) o) members)
 
 pub checked-returns-in-Compare : goal.checked-returns-in-Compare
