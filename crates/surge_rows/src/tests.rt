@@ -1,5 +1,7 @@
 //! Rows, worked out by hand.
 
+ghost use Rattle.std.specs.Prelude.{◌≡◌, ◌≤◌};
+
 use crate::{Ends, Left, Names, run_memory};
 use std::marker::Brand;
 use std::sync::ledger::Blank;
