@@ -1,0 +1,4 @@
+pub mod Rises
+pub mod Condensed
+pub mod Joining
+pub mod Gathering
