@@ -1,6 +1,6 @@
 //! A list that contracts see as its items.
 
-ghost use Rattle.std.specs.Prelude.{◌≡◌, [], ◌∷◌, ◌++◌, ◌==◌, length, OnOk, OnErr};
+ghost use Rattle.std.specs.Prelude.{◌≡◌, [], ◌∷◌, ◌++◌, ◌==◌, length, take, OnOk, OnErr};
 
 use crate::no_memory::NoMemory;
 use std::alloc::Global;
@@ -78,6 +78,24 @@ impl<T: Drop> List<T> {
     {
         self.items.push(item)?;
         Ok(())
+    }
+
+    /// Adds these items at the end, in time of their number (amortised over many calls). A refusal drops them and
+    /// leaves the list as it was.
+    pub fn append(&mut self, more: List<T>) -> Result<(), NoMemory>
+        ensures ok { OnOk result (self.new ≡ self.old ++ more) }
+        ensures err { OnErr result (self.new ≡ self.old) }
+    {
+        let mut items = more.into_vec();
+        self.items.append(&mut items)?;
+        Ok(())
+    }
+
+    /// Keeps the first `n` items, or all where there are fewer, and drops the others. It takes no memory.
+    pub fn truncate(&mut self, n: usize)
+        ensures { self.new ≡ take n self.old }
+    {
+        self.items.truncate(n);
     }
 
     /// Drops every item. It takes no memory.

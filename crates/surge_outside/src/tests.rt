@@ -57,6 +57,19 @@ fn small_types_keep_what_they_are_given(rt: HostRuntime) -> Result<(), Fail> {
     Ok(())
 }
 
+#[test]
+fn a_list_grows_and_shrinks(rt: HostRuntime) -> Result<(), Fail> {
+    let alloc = rt.alloc();
+    let mut list = List::from_vec([1u8, 2].to_vec(alloc)?);
+    list.append(List::from_vec([3, 4, 5].to_vec(alloc)?))?;
+    assert_eq!(rt; list.as_slice(), [1, 2, 3, 4, 5].as_slice());
+    list.truncate(4);
+    assert_eq!(rt; list.as_slice(), [1, 2, 3, 4].as_slice());
+    list.truncate(9);
+    assert_eq!(rt; list.len(), 4);
+    Ok(())
+}
+
 /// The whole file if it is shorter than the limit, and else a front of it that is as long as the limit or longer.
 fn read_whole<F: Files>(
     alloc: Global,
