@@ -42,8 +42,18 @@ impl<R: Record> Batch<R> {
         }
     }
 
-    /// The collection of entries that stand in the order of their records. It takes no memory.
-    fn from_sorted(mut entries: Vec<(R, Weight)>) -> Batch<R>
+    /// The collection of entries that stand in the order of their records, a record any number of times. It adds up and
+    /// drops entries where they stand, and takes no memory.
+    pub fn from_sorted(entries: List<(R, Weight)>) -> Batch<R>
+        requires { IsSortedByKey (λ e. e.0) R.cmp entries }
+        ensures value { result ≡ normal R.cmp entries }
+        ensures alike { Alike result entries }
+        ensures batch { IsBatch R.cmp result }
+    {
+        Batch::from_sorted_vec(entries.into_vec())
+    }
+
+    fn from_sorted_vec(mut entries: Vec<(R, Weight)>) -> Batch<R>
         requires { IsSortedByKey (λ e. e.0) R.cmp entries.items }
         ensures value { result ≡ normal R.cmp entries.items }
         ensures alike { Alike result entries.items }
@@ -52,6 +62,18 @@ impl<R: Record> Batch<R> {
         let kept = consolidate(entries.as_mut_slice());
         entries.truncate(kept);
         Batch { entries }
+    }
+
+    /// The batch of entries that are in normal form: records strictly rising in their order, no weight zero. It takes no
+    /// memory and does no work.
+    pub fn from_rising(entries: List<(R, Weight)>) -> Batch<R>
+        requires { IsBatch R.cmp entries }
+        ensures value { result ≡ entries }
+        ensures batch { IsBatch R.cmp result }
+    {
+        Batch {
+            entries: entries.into_vec(),
+        }
     }
 
     /// The collection of any entries: for each record the sum of its weights modulo 2^64, where that isn't zero. The
@@ -65,7 +87,7 @@ impl<R: Record> Batch<R> {
     {
         let mut entries = entries.into_vec();
         entries.sort_unstable_by_key(|entry| entry.0);
-        Ok(Batch::from_sorted(entries))
+        Ok(Batch::from_sorted_vec(entries))
     }
 
     /// How many entries there are.
@@ -100,6 +122,15 @@ impl<R: Record> Batch<R> {
         self.entries.as_slice()
     }
 
+    /// The entries by rising record, as a list of their own. It takes no memory.
+    pub fn into_entries(self) -> List<(R, Weight)>
+        ensures value { result ≡ self }
+        ensures batch { IsBatch R.cmp result }
+    {
+        let Batch { entries } = self;
+        List::from_vec(entries)
+    }
+
     /// The sum of two collections, by one walk along both.
     ///
     /// Errors: out of memory.
@@ -128,7 +159,7 @@ impl<R: Record> Batch<R> {
         Ok(Batch { entries })
     }
 
-    /// The sum of any number of collections, by one walk along all of them. It takes time in proportion to the number of
+    /// The sum of any number of collections, merged two at a time by halves. It takes time in proportion to the number of
     /// entries times the logarithm of the number of batches.
     ///
     /// Errors: out of memory.
@@ -138,6 +169,6 @@ impl<R: Record> Batch<R> {
         ensures batch { IfOk result (λ batch. IsBatch R.cmp batch) }
     {
         let entries = gather(alloc, batches)?;
-        Ok(Batch::from_sorted(entries))
+        Ok(Batch::from_sorted_vec(entries))
     }
 }

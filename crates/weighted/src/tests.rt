@@ -1,5 +1,7 @@
 //! Worked examples of weights and batches.
 
+ghost use Rattle.std.specs.Prelude.{◌≡◌, [], ◌∷◌, IfOk};
+
 use crate::{Batch, Weight};
 use std::alloc::Global;
 use std::test::Fail;
@@ -12,6 +14,20 @@ fn batch(alloc: Global, entries: &[(u32, Weight)]) -> Result<Batch<u32>, Fail> {
         list.push(*entry)?;
     }
     Ok(Batch::from_entries(list)?)
+}
+
+/// A list of two entries.
+fn pair(
+    alloc: Global,
+    first: (u32, Weight),
+    second: (u32, Weight),
+) -> Result<List<(u32, Weight)>, Fail>
+    ensures { IfOk result (λ list. list ≡ first ∷ second ∷ []) }
+{
+    let mut list = List::new(alloc);
+    list.push(first)?;
+    list.push(second)?;
+    Ok(list)
 }
 
 #[test]
@@ -67,5 +83,72 @@ fn batches_stay_in_order(rt: HostRuntime) -> Result<(), Fail> {
     assert_eq!(rt; merged.entry(1), (2, Weight(5)));
     let none = merged.add(&merged.negate()?)?;
     assert!(rt; none.is_empty());
+    Ok(())
+}
+
+#[test]
+fn sorted_entries_add_up(rt: HostRuntime) -> Result<(), Fail> {
+    let list = pair(rt.alloc(), (3, Weight(2)), (3, Weight(5)))?;
+    assert_eq!(rt;
+        Batch::from_sorted(list).as_slice(),
+        [(3, Weight(7))].as_slice()
+    );
+    Ok(())
+}
+
+#[test]
+fn rising_entries_stay(rt: HostRuntime) -> Result<(), Fail> {
+    let entries = [(8, Weight(5)), (3, Weight(2))];
+    let list = batch(rt.alloc(), &entries)?.into_entries();
+    let rising = Batch::from_rising(list);
+    assert_eq!(rt;
+        rising.as_slice(),
+        [(3, Weight(2)), (8, Weight(5))].as_slice()
+    );
+    Ok(())
+}
+
+#[test]
+fn entries_come_back(rt: HostRuntime) -> Result<(), Fail> {
+    let entries = [(8, Weight(5)), (3, Weight(2))];
+    let list = batch(rt.alloc(), &entries)?.into_entries();
+    assert_eq!(rt;
+        list.as_slice(),
+        [(3, Weight(2)), (8, Weight(5))].as_slice()
+    );
+    Ok(())
+}
+
+#[test]
+fn none_and_one_merge(rt: HostRuntime) -> Result<(), Fail> {
+    let alloc = rt.alloc();
+    let one = [batch(alloc, &[(6, Weight(1)), (2, Weight(4))])?];
+    let none = Batch::merge(alloc, &one[..0])?;
+    assert!(rt; none.is_empty());
+    let same = Batch::merge(alloc, &one)?;
+    assert_eq!(rt;
+        same.as_slice(),
+        [(2, Weight(4)), (6, Weight(1))].as_slice()
+    );
+    Ok(())
+}
+
+#[test]
+fn five_merge(rt: HostRuntime) -> Result<(), Fail> {
+    let alloc = rt.alloc();
+    let five = [
+        batch(alloc, &[(6, Weight(1)), (2, Weight(4))])?,
+        batch(alloc, &[(9, Weight(3))])?,
+        batch(alloc, &[(2, Weight(1)), (1, Weight(8))])?,
+        batch(alloc, &[(6, Weight(1).negate())])?,
+        batch(alloc, &[(5, Weight(2)), (9, Weight(3))])?,
+    ];
+    let sum = [
+        (1, Weight(8)),
+        (2, Weight(5)),
+        (5, Weight(2)),
+        (9, Weight(6)),
+    ];
+    assert_eq!(rt; Batch::merge(alloc, &five)?.as_slice(), sum.as_slice());
     Ok(())
 }

@@ -7,7 +7,7 @@ use Rattle.weighted.specs.SumLaws.{Alike-permutation}
 use Rattle.weighted.proofs.batch.Batch.merge.Goals as goal
 
 pub returns-clause-value : goal.returns-clause-value
-returns-clause-value g c = c.from_sorted.ensures.value ∙ normal-same g.R.Ord.cmp g.met.R.Ord.total g.met.R.Record.same c.in_ok-entries.entries.items (joined c.args.batches.now) (Alike-permutation (joined c.args.batches.now) c.in_ok-entries.entries.items c.in_ok-entries.ensures.entries)
+returns-clause-value g c = c.from_sorted_vec.ensures.value ∙ normal-same g.R.Ord.cmp g.met.R.Ord.total g.met.R.Record.same c.in_ok-entries.entries.items (joined c.args.batches.now) (Alike-permutation (joined c.args.batches.now) c.in_ok-entries.entries.items c.in_ok-entries.ensures.entries)
 
 pub returns-clause-alike : goal.returns-clause-alike
-returns-clause-alike g c = Alike-trans c.from_sorted.ensures.alike (Alike-permutation (joined c.args.batches.now) c.in_ok-entries.entries.items c.in_ok-entries.ensures.entries)
+returns-clause-alike g c = Alike-trans c.from_sorted_vec.ensures.alike (Alike-permutation (joined c.args.batches.now) c.in_ok-entries.entries.items c.in_ok-entries.ensures.entries)

@@ -4,7 +4,7 @@ use Rattle.std.proofs.lemmas.Grind.{common_steps}
 use Rattle.weighted.specs.Alike.{Alike-trans, Alike-is}
 use Rattle.weighted.specs.Normal.{normal, normal-Alike}
 use Rattle.weighted.specs.Batches.{IsBatch, IsBatch-normal}
-use Rattle.weighted.proofs.batch.Batch.from_sorted.Goals as goal
+use Rattle.weighted.proofs.batch.Batch.from_sorted_vec.Goals as goal
 
 pub invariant_of-result : goal.invariant_of-result
 invariant_of-result g c =

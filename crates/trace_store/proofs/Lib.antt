@@ -1,0 +1,5 @@
+pub mod Keys
+pub mod Values
+pub mod Times
+pub mod Steps
+pub mod Changes
