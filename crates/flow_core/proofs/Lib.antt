@@ -1,0 +1,4 @@
+mod Walks
+mod Rises
+mod Least
+mod Outcomes

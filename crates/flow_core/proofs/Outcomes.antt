@@ -1,0 +1,23 @@
+-- Clauses on an answer that is Ok.
+use Rattle.std.proofs.Common.{Result, Ok, Err, IfOk, OnOk}
+
+module _ {X Y : Type 0} where
+  pub IfOk-imply : (r : Result X Y) (P R : X → Type 0) → ((x : X) → P x → R x) → IfOk r P → IfOk r R
+  IfOk-imply (Ok x) P R f p = f x p
+  IfOk-imply (Err e) P R f p = tt
+
+  pub IfOk-and_OnOk : (r : Result X Y) (P : X → Type 0) (Q : Type 0) (R : X → Type 0) → ((x : X) → P x → Q → R x) → IfOk r P → OnOk r Q → IfOk r R
+  IfOk-and_OnOk (Ok x) P Q R f p q = f x p q
+  IfOk-and_OnOk (Err e) P Q R f p q = tt
+
+  pub OnOk-imply : (r : Result X Y) (P R : Type 0) → (P → R) → OnOk r P → OnOk r R
+  OnOk-imply (Ok x) P R f p = f p
+  OnOk-imply (Err e) P R f p = tt
+
+  pub OnOk-two : (r : Result X Y) (P Q R : Type 0) → (P → Q → R) → OnOk r P → OnOk r Q → OnOk r R
+  OnOk-two (Ok x) P Q R f p q = f p q
+  OnOk-two (Err e) P Q R f p q = tt
+
+  pub OnOk-any : (r : Result X Y) (P : Type 0) → P → OnOk r P
+  OnOk-any (Ok x) P p = p
+  OnOk-any (Err e) P p = tt

@@ -1,0 +1,9 @@
+pub mod Runs
+pub mod Lists
+pub mod Sides
+pub mod Linear
+pub mod Functions
+pub mod Parts
+pub mod PartLaws
+pub mod ChainLaws
+pub mod ForkLaws

@@ -1,0 +1,301 @@
+//! Worked examples, through functions that know of an operator only that it is one.
+
+ghost use Rattle.std.specs.Prelude.{◌≡◌, ℕ, ◌+◌, ◌%◌, ◌^◌, ◌==◌, ◌++◌, false, IsTrue, IfOk};
+ghost use Rattle.std.specs.Option.{IfSome};
+ghost use Rattle.weighted.specs.Alike.{Alike};
+ghost use Rattle.flow_core.specs.Runs.{Run, Answers, IsFresh};
+
+use crate::{Chain, Concat, Each, Filter, Fork, Keep, Map, Operator, Side, lawful};
+use lattice_time::{Pair, Position, Round, Time};
+use std::alloc::Global;
+use std::test::Fail;
+use surge_outside::{Counted, List, NoMemory, Record};
+use weighted::{Batch, Weight};
+
+/// The next number.
+#[derive(Drop)]
+struct Next;
+
+impl Each<u32, u32> for Next {
+    ghost gives = { λ _ a. (a + 1) % 2 ^ 32 };
+
+    fn apply(&self, a: u32) -> u32 {
+        a.wrapping_add(1)
+    }
+}
+
+/// Whether a number is even.
+#[derive(Drop)]
+struct Even;
+
+impl Keep<u32> for Even {
+    ghost keeps = { λ _ a. a % 2 == 0 };
+
+    fn keep(&self, a: &u32) -> bool {
+        *a % 2 == 0
+    }
+}
+
+/// An updater that is never called.
+#[derive(Drop)]
+struct NoCalls;
+
+impl Counted for NoCalls {
+    ghost calls = { λ _. 0 };
+}
+
+/// A time of a loop, in its outer dataflow.
+type Nested = Pair<Position, Round>;
+
+/// The map to the next number.
+type NextMap<T> = Map<Next, u32, u32, T, NoCalls>;
+
+/// The filter of even numbers.
+type EvenFilter<T> = Filter<Even, u32, T, NoCalls>;
+
+/// The next numbers, of which the even ones are kept.
+type NextEven<T, U> = Chain<Map<Next, u32, u32, T, U>, Filter<Even, u32, T, U>>;
+
+/// The first step of a new operator makes its function of what it is fed.
+fn first_step<T: Time, U: Counted, O: Operator<T, U> + Drop>(
+    mut operator: O,
+    t: T,
+    delta: &Batch<O::Input>,
+    updater: &mut U,
+) -> Result<Batch<O::Output>, NoMemory>
+    requires { IsFresh O.stands O.due O.seal O.spent T.least operator }
+    ensures { IfOk result (λ made. Alike made (O.apply operator delta.now)) }
+{
+    t.proper();
+    operator.step(t, delta, updater)
+}
+
+/// Two steps with a seal between them, or None where something is due after the first: what both make sums to the function
+/// of what both were fed.
+fn in_turn<T: Time, U: Counted, O: Operator<T, U>>(
+    operator: &mut O,
+    first: T,
+    delta: &Batch<O::Input>,
+    second: T,
+    more: &Batch<O::Input>,
+    updater: &mut U,
+) -> Result<Option<(Batch<O::Output>, Batch<O::Output>)>, NoMemory>
+    requires fresh { IsFresh O.stands O.due O.seal O.spent T.least operator.old }
+    requires below { IsTrue (T.leq first second) }
+    requires apart { T.leq second first ≡ false }
+    ensures { IfOk result (λ made. IfSome made (λ both. Alike (both.0 ++ both.1) (O.apply operator.old (delta.now ++ more.now)))) }
+{
+    first.proper();
+    second.proper();
+    let early = operator.step(first, delta, updater)?;
+    if operator.next_due().is_some() {
+        return Ok(None);
+    }
+    operator.seal(second)?;
+    let late = operator.step(second, more, updater)?;
+    Ok(Some((early, late)))
+}
+
+/// Whether it may be stepped, and nothing is due.
+fn is_live<T: Time, U: Counted, O: Operator<T, U>>(operator: &O) -> bool {
+    !operator.is_spent() && operator.next_due().is_none()
+}
+
+/// What holds of each run of a chain in hand.
+fn told<T: Time, U: Counted>(chain: &NextEven<T, U>)
+    ensures { let it = ⟦<NextEven<T, U> as Operator<T, U>>⟧ in (run : Run T ℕ ℕ) → it.stands chain.now run → Answers T.leq T.lub (it.apply chain.now) (it.seal chain.now) (it.due chain.now) run }
+{
+    lawful::<T, U, NextEven<T, U>>(chain);
+}
+
+/// A chain of a map and a filter, stepped once.
+fn chained<T: Time, U: Counted>(
+    alloc: Global,
+    t: T,
+    delta: &Batch<u32>,
+    updater: &mut U,
+) -> Result<Batch<u32>, NoMemory> {
+    let map: Map<Next, u32, u32, T, U> = Map::new(alloc, Next);
+    let filter: Filter<Even, u32, T, U> = Filter::new(alloc, Even);
+    let chain = Chain::new(map, filter);
+    told::<T, U>(&chain);
+    first_step(chain, t, delta, updater)
+}
+
+/// The same, after a sum of two sides.
+fn concatenated<T: Time, U: Counted>(
+    alloc: Global,
+    t: T,
+    delta: &Batch<Side<u32, u32>>,
+    updater: &mut U,
+) -> Result<Batch<u32>, NoMemory> {
+    let concat: Concat<u32, T, U> = Concat::new(alloc);
+    let map: Map<Next, u32, u32, T, U> = Map::new(alloc, Next);
+    let filter: Filter<Even, u32, T, U> = Filter::new(alloc, Even);
+    let chain = Chain::new(concat, Chain::new(map, filter));
+    first_step(chain, t, delta, updater)
+}
+
+/// A map and a filter side by side, stepped once.
+fn forked<T: Time, U: Counted>(
+    alloc: Global,
+    t: T,
+    delta: &Batch<u32>,
+    updater: &mut U,
+) -> Result<Batch<Side<u32, u32>>, NoMemory> {
+    let map: Map<Next, u32, u32, T, U> = Map::new(alloc, Next);
+    let filter: Filter<Even, u32, T, U> = Filter::new(alloc, Even);
+    first_step(Fork::new(alloc, map, filter), t, delta, updater)
+}
+
+/// A fork whose sides are added up again: each even number, and the number after each.
+fn rejoined<T: Time, U: Counted>(
+    alloc: Global,
+    t: T,
+    delta: &Batch<u32>,
+    updater: &mut U,
+) -> Result<Batch<u32>, NoMemory> {
+    let map: Map<Next, u32, u32, T, U> = Map::new(alloc, Next);
+    let filter: Filter<Even, u32, T, U> = Filter::new(alloc, Even);
+    let fork = Fork::new(alloc, map, filter);
+    let concat: Concat<u32, T, U> = Concat::new(alloc);
+    first_step(Chain::new(fork, concat), t, delta, updater)
+}
+
+/// The batch of records, each of weight 1.
+fn batch<R: Record>(alloc: Global, records: &[R]) -> Result<Batch<R>, NoMemory> {
+    let mut entries = Vec::new(alloc);
+    for record in records {
+        entries.push((*record, Weight(1)))?;
+    }
+    Batch::from_entries(List::from_vec(entries))
+}
+
+/// A time of a loop, in its outer dataflow.
+fn at(outer: u32, inner: u32) -> Pair<Position, Round> {
+    Pair {
+        outer: Position(outer),
+        inner: Round(inner),
+    }
+}
+
+#[test]
+fn chain_of_map_and_filter(rt: HostRuntime) -> Result<(), Fail> {
+    let alloc = rt.alloc();
+    let delta = batch(alloc, &[1, 2])?;
+    let made = chained(alloc, Position(0), &delta, &mut NoCalls)?;
+    assert_eq!(rt; made.as_slice(), [(2, Weight(1))].as_slice());
+    let made = chained(alloc, at(0, 0), &delta, &mut NoCalls)?;
+    assert_eq!(rt; made.as_slice(), [(2, Weight(1))].as_slice());
+    Ok(())
+}
+
+#[test]
+fn chain_after_concat(rt: HostRuntime) -> Result<(), Fail> {
+    let alloc = rt.alloc();
+    let delta = batch(alloc, &[Side::Left(1), Side::Right(2)])?;
+    let made = concatenated(alloc, Position(0), &delta, &mut NoCalls)?;
+    assert_eq!(rt; made.as_slice(), [(2, Weight(1))].as_slice());
+    let made = concatenated(alloc, at(0, 0), &delta, &mut NoCalls)?;
+    assert_eq!(rt; made.as_slice(), [(2, Weight(1))].as_slice());
+    Ok(())
+}
+
+#[test]
+fn fork_of_map_and_filter(rt: HostRuntime) -> Result<(), Fail> {
+    let alloc = rt.alloc();
+    let delta = batch(alloc, &[2])?;
+    let sides = [(Side::Left(3), Weight(1)), (Side::Right(2), Weight(1))];
+    let made = forked(alloc, Position(0), &delta, &mut NoCalls)?;
+    assert_eq!(rt; made.as_slice(), sides.as_slice());
+    let made = forked(alloc, at(0, 0), &delta, &mut NoCalls)?;
+    assert_eq!(rt; made.as_slice(), sides.as_slice());
+    Ok(())
+}
+
+#[test]
+fn fork_joined_again(rt: HostRuntime) -> Result<(), Fail> {
+    let alloc = rt.alloc();
+    let delta = batch(alloc, &[3, 4])?;
+    let made = rejoined(alloc, at(1, 2), &delta, &mut NoCalls)?;
+    assert_eq!(rt;
+        made.as_slice(),
+        [(4, Weight(2)), (5, Weight(1))].as_slice()
+    );
+    Ok(())
+}
+
+#[test]
+fn chain_steps_with_a_seal_between(rt: HostRuntime) -> Result<(), Fail> {
+    let alloc = rt.alloc();
+    let delta = batch(alloc, &[1, 2])?;
+    let more = batch(alloc, &[3])?;
+    let map: Map<Next, u32, u32, Position, NoCalls> = Map::new(alloc, Next);
+    let filter: Filter<Even, u32, Position, NoCalls> = Filter::new(alloc, Even);
+    let mut chain = Chain::new(map, filter);
+    let made = in_turn(
+        &mut chain,
+        Position(1),
+        &delta,
+        Position(2),
+        &more,
+        &mut NoCalls,
+    )?;
+    match made {
+        Some((early, late)) => {
+            assert_eq!(rt; early.as_slice(), [(2, Weight(1))].as_slice());
+            assert_eq!(rt; late.as_slice(), [(4, Weight(1))].as_slice());
+        }
+        None => assert!(rt; false, "nothing is due to a map or a filter"),
+    }
+    let whole = is_live::<Position, NoCalls, NextEven<Position, NoCalls>>(&chain);
+    let first = is_live::<Position, NoCalls, NextMap<Position>>(chain.first());
+    let second = is_live::<Position, NoCalls, EvenFilter<Position>>(chain.second());
+    assert!(rt; whole && first && second);
+    Ok(())
+}
+
+#[test]
+fn fork_steps_with_a_seal_between(rt: HostRuntime) -> Result<(), Fail> {
+    let alloc = rt.alloc();
+    let delta = batch(alloc, &[1, 2])?;
+    let more = batch(alloc, &[4])?;
+    let concat: Concat<u32, Pair<Position, Round>, NoCalls> = Concat::new(alloc);
+    let map: Map<Next, u32, u32, Pair<Position, Round>, NoCalls> = Map::new(alloc, Next);
+    let filter: Filter<Even, u32, Pair<Position, Round>, NoCalls> = Filter::new(alloc, Even);
+    let mut sum = Chain::new(Fork::new(alloc, map, filter), concat);
+    let first_time = Pair {
+        outer: Position(1),
+        inner: Round(0),
+    };
+    let second_time = Pair {
+        outer: Position(2),
+        inner: Round(3),
+    };
+    let made = in_turn(
+        &mut sum,
+        first_time,
+        &delta,
+        second_time,
+        &more,
+        &mut NoCalls,
+    )?;
+    match made {
+        Some((early, late)) => {
+            assert_eq!(rt;
+                early.as_slice(),
+                [(2, Weight(2)), (3, Weight(1))].as_slice()
+            );
+            assert_eq!(rt;
+                late.as_slice(),
+                [(4, Weight(1)), (5, Weight(1))].as_slice()
+            );
+        }
+        None => assert!(rt; false, "nothing is due to a map, a filter or a sum"),
+    }
+    let first = sum.first();
+    let left = is_live::<Nested, NoCalls, NextMap<Nested>>(first.first());
+    let right = is_live::<Nested, NoCalls, EvenFilter<Nested>>(first.second());
+    assert!(rt; left && right);
+    Ok(())
+}
