@@ -1,0 +1,12 @@
+pub mod Runs
+pub mod Numbers
+pub mod Enclosing
+pub mod Words
+pub mod Fronts
+pub mod Lexemes
+pub mod Utf8
+pub mod Gaps
+pub mod Places
+pub mod Whole
+pub mod Steps
+pub mod Printing
