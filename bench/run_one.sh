@@ -1,35 +1,14 @@
 #!/bin/sh
-# Builds a bench's program beside copies of the crates that it stands on, and the same in plain Rust; runs both in turn,
-# and prints the least time of each in microseconds, and their ratio.
+# Builds a bench's program and the same in plain Rust, runs both in turn, and prints the least time of each in
+# microseconds, and their ratio.
 # Called by bench/NAME/run.sh as: run_one.sh NAME 'CRATES THAT IT STANDS ON, LOWEST FIRST'
 set -eu
 name=$1
-stands_on=$2
 top=$(cd "$(dirname "$0")/.." && pwd)
 work=${BENCH_DIR:-${TMPDIR:-/tmp}/surge-bench}/$name
 rounds=${BENCH_ROUNDS:-7}
-mkdir -p "$work/crates/bench_$name/src"
-cp "$top/HANDLES" "$work/HANDLES"
-: > "$work/crates.txt"
-for crate in $stands_on; do
-    rm -rf "$work/crates/$crate/src" "$work/crates/$crate/specs" "$work/crates/$crate/proofs"
-    mkdir -p "$work/crates/$crate"
-    for part in src specs proofs; do
-        if [ -d "$top/crates/$crate/$part" ]; then
-            cp -R "$top/crates/$crate/$part" "$work/crates/$crate/$part"
-        fi
-    done
-    grep "^$crate:" "$top/crates.txt" >> "$work/crates.txt"
-done
-echo "bench_$name: $stands_on anyhow" >> "$work/crates.txt"
-cp "$top/bench/$name/main.rt.txt" "$work/crates/bench_$name/src/main.rt"
+program=$(sh "$top/bench/build.sh" "$name" "$2" anyhow)
 rustc -O --edition 2024 -o "$work/plain" "$top/bench/$name/plain.rs"
-cd "$work/crates/bench_$name"
-rt run > "$work/built.txt" 2> "$work/build.log" || {
-    tail -n 40 "$work/build.log" >&2
-    exit 1
-}
-program=$(find "$work/crates/bench_$name/out" -type f -name "bench_$name" -perm -u+x | head -n 1)
 : > "$work/surge.txt"
 : > "$work/plain.txt"
 round=0

@@ -1,161 +1,221 @@
 -- What two data files spell is a graph.
-use Rattle.std.proofs.Common.{◌≡◌, ◌∙◌, sym, refl, subst, ℕ, ◌+◌, ◌<◌, ◌≤◌, ◌^◌, Bool, true, false, ◌&&◌, List, [], ◌∷◌, ◌++◌, length, map, Option, Some, None, option_map, option_and_then, if◌then◌else◌, arith}
-use Rattle.std.specs.Prelude.{ℤ, nat_lt, nat_le, nat_eq, position}
+use Rattle.std.proofs.Common.{◌≡◌, ◌∙◌, refl, ap, ℕ, zero, suc, ◌+◌, ◌<◌, ◌≤◌, ◌^◌, Bool, true, false, ◌&&◌, ◌==◌, List, [], ◌∷◌, ◌++◌, length, map, Option, Some, None, option_map, Err, if◌then◌else◌, arith}
+use Rattle.std.specs.Prelude.{ℤ, pos, neg_ℤ, nat_eq, nat_lt, nat_le, ok_or, unwrap_or, All}
 use Rattle.std.specs.List.{list_any, list_all, position_or_len}
 use Rattle.std.specs.Char.{is_ascii_digit}
+use Rattle.std.specs.Result.{result_err, result_unwrap_or}
+use Rattle.std.specs.Str.{is_utf8}
 use Rattle.std.proofs.lemmas.List.{length-map, length-append}
+use Rattle.std.proofs.lemmas.List.Elements.{All-append, All-map}
 use Rattle.std.proofs.lemmas.Bool.Decides.{nat_tests}
-use Rattle.graph_loader.proofs.Each.{Each, each-push, each-map, each-get}
-use Rattle.graph_loader.specs.declared.number.NodeNo.{NodeNo}
-use Rattle.graph_loader.specs.declared.cell.Column.{Column}
-use Rattle.graph_loader.specs.GraphData.{GraphData, IsGraphData, node}
-use Rattle.graph_loader.specs.Spelling.{id_spelled, int_spelled, decimal, is_number}
-use Rattle.graph_loader.specs.DataFiles.{Edge, judged, new_id, id_in, node_of, is_nodes_header, ids_in, ids_of, has_mark, records_of, end_spelled, edge_between, edge_in, edge_of, column_in, graph_with, graph_in, graph_over}
+use Rattle.graph_model.specs.declared.number.NodeNo.{NodeNo}
+use Rattle.graph_model.specs.declared.cell.Column.{Column}
+use Rattle.graph_model.specs.declared.cell.Cells.{Cells}
+use Rattle.graph_model.specs.declared.cell.Kind.{Kind}
+use Rattle.graph_model.specs.declared.cell.Kind.TheVariants as kind
+use Rattle.graph_model.specs.GraphData.{AreDistinct, EndsAmong, FitColumns, HasNoLowest, IsGraphData, cell_count, lowest_number, node}
+use Rattle.graph_loader.specs.declared.fault.Blame.{Blame}
+use Rattle.graph_loader.specs.declared.fault.DataKind.{DataKind}
+use Rattle.graph_loader.specs.declared.fault.DataKind.TheVariants as wrong
+use Rattle.graph_loader.specs.declared.fault.DataFile.TheVariants as file
+use Rattle.graph_loader.specs.DataFiles.{Row, blame, cells_from, cells_of, earlier_of, edge_fault, end_in, end_named, ends_of_row, field_of, graph_with, id_fault, id_of_row, ids_of, int_in, kinds_of, node_fault, rows_fault, table}
+use Rattle.graph_loader.specs.Spelling.{decimal, id_spelled, int_spelled, is_number, minus_sign, signed_spelled}
+use Rattle.graph_loader.proofs.CellFacts.{kinds-of-cells}
+use Rattle.graph_loader.proofs.ColumnFacts.{AreColumns, distinct-push, new-id}
+use Rattle.graph_loader.proofs.RecordFacts.{few-nodes, few-edges, rows-keep}
 
--- what each accepted row keeps, all of them keep
-judged-keeps : {A : Type 0} (P : List A → Type 0) (judge : List A → List (List ℕ) → Option A)
-    → ((earlier : List A) (row : List (List ℕ)) (x : A) → P earlier → judge earlier row ≡ Some x → P (earlier ++ x ∷ []))
-    → (earlier : List A) (rows : List (List (List ℕ))) (out : List A) → P earlier → judged judge earlier rows ≡ Some out → P out
-judged-keeps P judge step earlier [] out p e = let same : earlier ≡ out = cc in subst P same p
-judged-keeps {A} P judge step earlier (row ∷ rows) out p e = cases (judge earlier row) refl (λ x q. judged-keeps P judge step (earlier ++ x ∷ []) rows out q) e where
-  cases : (o : Option A) → judge earlier row ≡ o → ((x : A) → P (earlier ++ x ∷ []) → judged judge (earlier ++ x ∷ []) rows ≡ Some out → P out)
-      → option_and_then (λ x. judged judge (earlier ++ x ∷ []) rows) o ≡ Some out → P out
-  cases None q more f = absurd (cc)
-  cases (Some x) q more f = more x (step earlier row x p q) f
+-- ---- lists
 
--- the parts of a choice that gave something
-chosen : {A : Type 0} (t : Bool) (o : Option A) (x : A) → (if t then o else None) ≡ Some x → (t ≡ true) × (o ≡ Some x)
-chosen true o x e = (refl, e)
-chosen false o x e = absurd (cc)
+all-push : {A : Type 0} (P : A → Type 0) (xs : List A) (x : A) → All P xs → P x → All P (xs ++ x ∷ [])
+all-push P xs x h p = All-append P xs (x ∷ []) h (one x p) where
+  one : (x : _) → P x → All P (x ∷ [])
+  one x p zero d lt = p
+  one x p (suc k) d lt = absurd (omega arith)
 
-bound : {A B : Type 0} (f : A → Option B) (o : Option A) (y : B) → option_and_then f o ≡ Some y → (x : A) × (o ≡ Some x) × (f x ≡ Some y)
-bound f None y e = absurd (cc)
-bound f (Some x) y e = (x, refl, e)
+all-none : {A : Type 0} (P : A → Type 0) → All P []
+all-none P k d lt = absurd (omega arith)
 
-mapped : {A B : Type 0} (f : A → B) (o : Option A) (y : B) → option_map f o ≡ Some y → (x : A) × (o ≡ Some x) × (f x ≡ y)
-mapped f None y e = absurd (cc)
-mapped f (Some x) y e = (x, refl, cc)
+-- ---- what a record without a fault gives
 
--- ---- ids
+-- the parts of checks that are made one after the other
+checked : (t : Bool) (o : Option Blame) (b : Blame) → (if t then o else Some b) ≡ None → o ≡ None
+checked true o b e = e
+checked false o b e = absurd (cc)
+
+first-none : (o p : Option Blame) → earlier_of o p ≡ None → (o ≡ None) × (p ≡ None)
+first-none None p e = (refl, e)
+first-none (Some b) p e = absurd (cc)
+
+unblamed : (column : ℕ) (o : Option DataKind) → option_map (blame column) o ≡ None → o ≡ None
+unblamed column None e = refl
+unblamed column (Some k) e = absurd (cc)
 
 last-of : (a b : Bool) → (a && b) ≡ true → b ≡ true
 last-of true b e = e
 last-of false b e = absurd (cc)
 
-id-small : (field : List ℕ) (id : ℕ) → id_spelled field ≡ Some id → id < 2 ^ 63
-id-small field id e =
-    let c = chosen (is_number field) (Some (decimal field)) id e in
-    let small = last-of (nat_le 1 (length field) && nat_le (length field) 19 && list_all is_ascii_digit field) (nat_lt (decimal field) (2 ^ 63)) c.0 in
-    let same : decimal field ≡ id = cc in
-    below (decimal field) id small same
-  where
-    below : (m n : ℕ) → nat_lt m (2 ^ 63) ≡ true → m ≡ n → n < 2 ^ 63
-    below m n t e = grind (arith, nat_tests)
+number-small : (field : List ℕ) → is_number field ≡ true → decimal field < 2 ^ 63
+number-small field e = below (last-of (nat_le 1 (length field) && nat_le (length field) 19 && list_all is_ascii_digit field) (nat_lt (decimal field) (2 ^ 63)) e) where
+  below : nat_lt (decimal field) (2 ^ 63) ≡ true → decimal field < 2 ^ 63
+  below t = grind (arith, nat_tests)
 
-abbrev pub AreIds : List ℕ → Type 0
-AreIds ids = (length ids ≤ 1_000_000) × Each (λ id. id < 2 ^ 63) ids
+-- an id without a fault is below 2^63, and new
+id-fits : (ids field : List ℕ) → id_fault ids (id_spelled field) ≡ None → (unwrap_or (id_spelled field) 0 < 2 ^ 63) × (list_any (nat_eq (unwrap_or (id_spelled field) 0)) ids ≡ false)
+id-fits ids field e = cases (is_number field) refl e where
+  new : (id : ℕ) (t : Bool) → list_any (nat_eq id) ids ≡ t → (if t then Some wrong.RepeatedId else None) ≡ None → list_any (nat_eq id) ids ≡ false
+  new id true p e = absurd (cc)
+  new id false p e = p
 
-row-id : (earlier : List ℕ) (row : List (List ℕ)) (x : ℕ) → id_in earlier row ≡ Some x → x < 2 ^ 63
-row-id earlier [] x e = absurd (cc)
-row-id earlier (field ∷ []) x e =
-    let b = bound (new_id earlier) (id_spelled field) x e in
-    let fresh : x ≡ b.0 = same (list_any (nat_eq b.0) earlier) b.0 b.2 in
-    rw fresh (id-small field b.0 b.1)
-  where
-    same : (t : Bool) (id : ℕ) → (if t then None else Some id) ≡ Some x → x ≡ id
-    same true id e = absurd (cc)
-    same false id e = cc
-row-id earlier (field ∷ more ∷ fields) x e = absurd (cc)
+  cases : (t : Bool) → is_number field ≡ t → id_fault ids (if t then Some (decimal field) else None) ≡ None
+      → (unwrap_or (if t then Some (decimal field) else None) 0 < 2 ^ 63) × (list_any (nat_eq (unwrap_or (if t then Some (decimal field) else None) 0)) ids ≡ false)
+  cases true p e = (number-small field p, new (decimal field) (list_any (nat_eq (decimal field)) ids) refl e)
+  cases false p e = absurd (cc)
 
-ids-step : (earlier : List ℕ) (row : List (List ℕ)) (x : ℕ) → AreIds earlier → node_of earlier row ≡ Some x → AreIds (earlier ++ x ∷ [])
-ids-step earlier row x h e =
-    let c = chosen (nat_lt (length earlier) 1000000) (id_in earlier row) x e in
-    (few (length earlier) (length (earlier ++ x ∷ [])) c.0 (length-append earlier (x ∷ [])), each-push (λ id. id < 2 ^ 63) earlier x h.1 (row-id earlier row x c.1))
-  where
-    few : (n m : ℕ) → nat_lt n 1000000 ≡ true → m ≡ n + 1 → m ≤ 1000000
-    few n m t e = grind (arith, nat_tests)
+-- ---- the nodes
 
-pub ids-are : (bytes ids : List ℕ) → ids_of bytes ≡ Some ids → AreIds ids
-ids-are bytes ids e = cases (has_mark bytes) e where
-  listed : (t : Bool) (rows : List (List (List ℕ))) → (if t then judged node_of [] rows else None) ≡ Some ids → AreIds ids
-  listed t rows e = let c = chosen t (judged node_of [] rows) ids e in judged-keeps AreIds node_of ids-step [] rows ids (omega arith, tt) c.1
+pub record AreIds (ids : List ℕ) : Type 0 where
+  pub few : length ids ≤ 1_000_000
+  pub small : All (λ id. id < 2 ^ 63) ids
+  pub distinct : AreDistinct ids
 
-  in-rows : (rows : List (List (List ℕ))) → ids_in rows ≡ Some ids → AreIds ids
-  in-rows [] e = absurd (cc)
-  in-rows (header ∷ rows) e = listed (is_nodes_header header) rows e
-
-  cases : (t : Bool) → (if t then None else ids_in (records_of bytes)) ≡ Some ids → AreIds ids
-  cases true e = absurd (cc)
-  cases false e = in-rows (records_of bytes) e
-
--- ---- edges
-
-abbrev Within : List ℕ → Edge → Type 0
-Within ids e = (e.0.0.0 < length ids) × (e.0.1.0 < length ids)
-
-abbrev AreEdges : List ℕ → List Edge → Type 0
-AreEdges ids edges = (length edges ≤ 4_000_000) × Each (Within ids) edges
-
-end-within : (ids field : List ℕ) (n : NodeNo) → end_spelled ids field ≡ Some n → n.0 < length ids
-end-within ids field n e =
-    let b = bound (λ id. option_map node (position (nat_eq id) ids)) (id_spelled field) n e in
-    let m = mapped node (position (nat_eq b.0) ids) n b.2 in
-    let c = chosen (nat_lt (position_or_len (nat_eq b.0) ids) (length ids)) (Some (position_or_len (nat_eq b.0) ids)) m.0 m.1 in
-    rw (← m.2) (below (position_or_len (nat_eq b.0) ids) m.0 c.0 cc)
-  where
-    below : (k i : ℕ) → nat_lt k (length ids) ≡ true → k ≡ i → i < length ids
-    below k i t e = grind (arith, nat_tests)
-
-between-within : (ids : List ℕ) (a b : Option NodeNo) (cell : Option (Option ℤ)) (x : Edge) → ((n : NodeNo) → a ≡ Some n → n.0 < length ids) → ((n : NodeNo) → b ≡ Some n → n.0 < length ids)
-    → edge_between a b cell ≡ Some x → Within ids x
-between-within ids None b cell x ha hb e = absurd (cc)
-between-within ids (Some a) None cell x ha hb e = absurd (cc)
-between-within ids (Some a) (Some b) None x ha hb e = absurd (cc)
-between-within ids (Some a) (Some b) (Some cell) x ha hb e = let same : ◌≡◌ {A = Edge} ((a, b), cell) x = cc in rw (← same) (ha a refl, hb b refl)
-
-row-within : (ids : List ℕ) (row : List (List ℕ)) (x : Edge) → edge_in ids row ≡ Some x → Within ids x
-row-within ids [] x e = absurd (cc)
-row-within ids (a ∷ []) x e = absurd (cc)
-row-within ids (a ∷ b ∷ []) x e = absurd (cc)
-row-within ids (a ∷ b ∷ c ∷ []) x e = between-within ids (end_spelled ids a) (end_spelled ids b) (int_spelled c) x (end-within ids a) (end-within ids b) e
-row-within ids (a ∷ b ∷ c ∷ more ∷ fields) x e = absurd (cc)
-
-edges-step : (ids : List ℕ) (earlier : List Edge) (row : List (List ℕ)) (x : Edge) → AreEdges ids earlier → edge_of ids earlier row ≡ Some x → AreEdges ids (earlier ++ x ∷ [])
-edges-step ids earlier row x h e =
-    let c = chosen (nat_lt (length earlier) 4000000) (edge_in ids row) x e in
-    (few (length earlier) (length (earlier ++ x ∷ [])) c.0 (length-append earlier (x ∷ [])), each-push (Within ids) earlier x h.1 (row-within ids row x c.1))
-  where
-    few : (n m : ℕ) → nat_lt n 4000000 ≡ true → m ≡ n + 1 → m ≤ 4000000
-    few n m t e = grind (arith, nat_tests)
-
-graph-with : (ids : List ℕ) (column : Column) (edges : List Edge) → AreIds ids → AreEdges ids edges → IsGraphData (graph_with ids column edges)
-graph-with ids column edges i e =
-    let count = length-map edges (λ (x : Edge). x.0) in
-    let cells = length-map edges (λ (x : Edge). x.1) in
-    let ends = each-map (Within ids) (λ (p : NodeNo × NodeNo). (p.0.0 < length ids) × (p.1.0 < length ids)) (λ (x : Edge). x.0) edges (λ x w. w) e.1 in
+ids-step : (kinds : List Kind) (earlier : List ℕ) (row : Row) → AreIds earlier → node_fault kinds earlier row ≡ None → AreIds (earlier ++ id_of_row row ∷ [])
+ids-step kinds earlier row h e =
+    let count = few-nodes kinds earlier row e in
+    let judged = checked (nat_lt (length earlier) 1_000_000) _ _ e in
+    let fields = checked (length row == length kinds + 1) _ _ judged in
+    let id = id-fits earlier (field_of row 0) (unblamed 1 _ (first-none _ _ fields).0) in
     record {
-      few_nodes = i.0;
-      few_edges = rw count e.0;
-      small_ids = λ n lt. each-get (λ id. id < 2 ^ 63) ids n 0 lt i.1;
-      sources = λ k lt. (each-get (λ (p : NodeNo × NodeNo). (p.0.0 < length ids) × (p.1.0 < length ids)) (map (λ (x : Edge). x.0) edges) k (node 0, node 0) lt ends).0;
-      destinations = λ k lt. (each-get (λ (p : NodeNo × NodeNo). (p.0.0 < length ids) × (p.1.0 < length ids)) (map (λ (x : Edge). x.0) edges) k (node 0, node 0) lt ends).1;
-      columns = refl;
-      cells = λ c lt. let first : c ≡ 0 = omega arith in rw first (cells ∙ sym count);
+      few = omega (arith, count, length-append earlier (id_of_row row ∷ []));
+      small = all-push (λ id. id < 2 ^ 63) earlier (id_of_row row) h.small id.0;
+      distinct = distinct-push earlier (id_of_row row) h.distinct (new-id earlier (id_of_row row) id.1);
     }
 
--- the graph whose nodes have these ids is one
-pub graph-fits : (bytes ids : List ℕ) (g : GraphData) → AreIds ids → graph_over bytes ids ≡ Some g → IsGraphData g
-graph-fits bytes ids g i e = cases (has_mark bytes) e where
-  under : (column : Option Column) (rows : List (List (List ℕ))) → option_and_then (λ c. option_map (graph_with ids c) (judged (edge_of ids) [] rows)) column ≡ Some g → IsGraphData g
-  under column rows e =
-      let b = bound (λ c. option_map (graph_with ids c) (judged (edge_of ids) [] rows)) column g e in
-      let m = mapped (graph_with ids b.0) (judged (edge_of ids) [] rows) g b.2 in
-      rw (← m.2) (graph-with ids b.0 m.0 i (judged-keeps (AreEdges ids) (edge_of ids) (edges-step ids) [] rows m.0 (omega arith, tt) m.1))
+pub ids-are : (kinds : List Kind) (rows : List Row) → rows_fault file.Nodes (node_fault kinds) id_of_row [] rows ≡ None → AreIds (ids_of rows)
+ids-are kinds rows e =
+    rows-keep ℕ file.Nodes id_of_row 1 node_fault kinds AreIds (ids-step kinds) rows []
+    (record { few = omega arith; small = all-none (λ id. id < 2 ^ 63); distinct = λ i j x a b. absurd (cc) }) e
 
-  in-rows : (rows : List (List (List ℕ))) → graph_in ids rows ≡ Some g → IsGraphData g
-  in-rows [] e = absurd (cc)
-  in-rows (header ∷ rows) e = under (column_in header) rows e
+-- ---- the edges
 
-  cases : (t : Bool) → (if t then None else graph_in ids (records_of bytes)) ≡ Some g → IsGraphData g
-  cases true e = absurd (cc)
-  cases false e = in-rows (records_of bytes) e
+end-fits : (ids field : List ℕ) → result_err (end_in ids field) ≡ None → (result_unwrap_or (end_in ids field) (node 0)).0 < length ids
+end-fits ids field e = spelled (id_spelled field) e where
+  found : (id : ℕ) (t : Bool) → nat_lt (position_or_len (nat_eq id) ids) (length ids) ≡ t
+      → result_err (ok_or (option_map node (if t then Some (position_or_len (nat_eq id) ids) else None)) wrong.UnknownNode) ≡ None
+      → (result_unwrap_or (ok_or (option_map node (if t then Some (position_or_len (nat_eq id) ids) else None)) wrong.UnknownNode) (node 0)).0 < length ids
+  found id true p e = below p where
+    below : nat_lt (position_or_len (nat_eq id) ids) (length ids) ≡ true → position_or_len (nat_eq id) ids < length ids
+    below t = grind (arith, nat_tests)
+  found id false p e = absurd (cc)
+
+  spelled : (o : Option ℕ) → result_err (end_named ids o) ≡ None → (result_unwrap_or (end_named ids o) (node 0)).0 < length ids
+  spelled None e = absurd (cc)
+  spelled (Some id) e = found id (nat_lt (position_or_len (nat_eq id) ids) (length ids)) refl e
+
+pub record AreEnds (nodes : ℕ) (ends : List (NodeNo × NodeNo)) : Type 0 where
+  pub few : length ends ≤ 4_000_000
+  pub among : All (EndsAmong nodes) ends
+
+ends-step : (ids : List ℕ) (kinds : List Kind) (earlier : List (NodeNo × NodeNo)) (row : Row) → AreEnds (length ids) earlier → edge_fault kinds ids earlier row ≡ None
+    → AreEnds (length ids) (earlier ++ ends_of_row ids row ∷ [])
+ends-step ids kinds earlier row h e =
+    let count = few-edges kinds ids earlier row e in
+    let judged = checked (nat_lt (length earlier) 4_000_000) _ _ e in
+    let fields = checked (length row == length kinds + 2) _ _ judged in
+    let first = first-none _ _ fields in
+    let second = first-none _ _ first.1 in
+    record {
+      few = omega (arith, count, length-append earlier (ends_of_row ids row ∷ []));
+      among = all-push (EndsAmong (length ids)) earlier (ends_of_row ids row) h.among (end-fits ids (field_of row 0) (unblamed 1 _ first.0), end-fits ids (field_of row 1) (unblamed 2 _ second.0));
+    }
+
+pub ends-are : (ids : List ℕ) (kinds : List Kind) (rows : List Row) → rows_fault file.Edges (edge_fault kinds ids) (ends_of_row ids) [] rows ≡ None
+    → AreEnds (length ids) (map (ends_of_row ids) rows)
+ends-are ids kinds rows e =
+    rows-keep (NodeNo × NodeNo) file.Edges (ends_of_row ids) 2 (λ kinds. edge_fault kinds ids) kinds (AreEnds (length ids)) (ends-step ids kinds) rows []
+    (record { few = omega arith; among = all-none (EndsAmong (length ids)) }) e
+
+-- ---- cells
+
+not-lowest : (n : ℕ) → n < 2 ^ 63 → neg_ℤ (pos n) ≡ lowest_number → ⊥
+not-lowest zero lt e = cc
+not-lowest (suc n) lt e = let same : n ≡ 9_223_372_036_854_775_807 = cc in omega arith
+
+signed-fits : (field : List ℕ) → signed_spelled field ≡ Some lowest_number → ⊥
+signed-fits [] e = cc
+signed-fits (b ∷ rest) e = cases (b == minus_sign) (is_number rest) (is_number (b ∷ rest)) refl e where
+  cases : (t u v : Bool) → is_number rest ≡ u
+      → (if t then option_map (λ n. neg_ℤ (pos n)) (if u then Some (decimal rest) else None) else option_map (λ n. pos n) (if v then Some (decimal (b ∷ rest)) else None)) ≡ Some lowest_number → ⊥
+  cases true true v p e = let same : neg_ℤ (pos (decimal rest)) ≡ lowest_number = cc in not-lowest (decimal rest) (number-small rest p) same
+  cases true false v p e = cc
+  cases false u true p e = cc
+  cases false u false p e = cc
+
+int-fits : (field : List ℕ) → result_unwrap_or (int_in field) None ≡ Some lowest_number → ⊥
+int-fits field e = cases (is_utf8 field) field e where
+  some : (o : Option ℤ) → option_map (λ z. Some z) o ≡ Some (Some lowest_number) → o ≡ Some lowest_number
+  some None e = absurd (cc)
+  some (Some z) e = cc
+
+  of-spelled : (o : Option (Option ℤ)) → result_unwrap_or {E = DataKind} (ok_or o wrong.BadCell) None ≡ Some lowest_number → o ≡ Some (Some lowest_number)
+  of-spelled None e = absurd (cc)
+  of-spelled (Some z) e = ap (λ x. Some x) e
+
+  text : (field : List ℕ) → int_spelled field ≡ Some (Some lowest_number) → ⊥
+  text [] e = cc
+  text (b ∷ rest) e = signed-fits (b ∷ rest) (some (signed_spelled (b ∷ rest)) e)
+
+  cases : (t : Bool) (field : List ℕ) → result_unwrap_or (if t then ok_or (int_spelled field) wrong.BadCell else Err wrong.NotUtf8) None ≡ Some lowest_number → ⊥
+  cases true field e = text field (of-spelled (int_spelled field) e)
+  cases false field e = cc
+
+all-fields : (fields : List (List ℕ)) → All (λ z. z ≡ Some lowest_number → ⊥) (map (λ field. result_unwrap_or (int_in field) None) fields)
+all-fields fields = All-map (λ z. z ≡ Some lowest_number → ⊥) (λ field. result_unwrap_or (int_in field) None) fields (λ k d lt. int-fits _)
+
+cells-fit : (k : Kind) (fields : List (List ℕ)) → HasNoLowest (cells_from k fields)
+cells-fit kind.Int fields = all-fields fields
+cells-fit kind.Str fields = tt
+cells-fit kind.Bool fields = tt
+
+count-of : (k : Kind) (fields : List (List ℕ)) → cell_count (cells_from k fields) ≡ length fields
+count-of kind.Int fields = length-map fields _
+count-of kind.Str fields = refl
+count-of kind.Bool fields = length-map fields _
+
+all-cons : {A : Type 0} (P : A → Type 0) (x : A) (xs : List A) → P x → All P xs → All P (x ∷ xs)
+all-cons P x xs p h zero d lt = p
+all-cons P x xs p h (suc k) d lt = h k d (omega arith)
+
+counts : (rows : List Row) (place : ℕ) (kinds : List Kind) → All (λ c. cell_count c ≡ length rows) (cells_of rows place kinds)
+counts rows place [] = all-none (λ (c : Cells). cell_count c ≡ length rows)
+counts rows place (k ∷ kinds) =
+    all-cons (λ (c : Cells). cell_count c ≡ length rows) _ _ (count-of k (map (λ row. field_of row place) rows) ∙ length-map rows (λ row. field_of row place)) (counts rows (place + 1) kinds)
+
+numbers : (rows : List Row) (place : ℕ) (kinds : List Kind) → All HasNoLowest (cells_of rows place kinds)
+numbers rows place [] = all-none HasNoLowest
+numbers rows place (k ∷ kinds) = all-cons HasNoLowest _ _ (cells-fit k (map (λ row. field_of row place) rows)) (numbers rows (place + 1) kinds)
+
+columns-fit : (rows : List Row) (place count : ℕ) (columns : List Column) → count ≡ length rows → FitColumns count columns (cells_of rows place (kinds_of columns))
+columns-fit rows place count columns e = rw e (record {
+  kinds = kinds-of-cells rows place (kinds_of columns);
+  counts = counts rows place (kinds_of columns);
+  numbers = numbers rows place (kinds_of columns);
+})
+
+-- ---- both files
+
+pub graph-fits : (node_rows edge_rows : List Row) (node_columns edge_columns : List Column) → AreColumns node_columns → AreColumns edge_columns
+    → AreIds (ids_of node_rows) → AreEnds (length (ids_of node_rows)) (map (ends_of_row (ids_of node_rows)) edge_rows)
+    → IsGraphData (graph_with (table node_columns node_rows) (table edge_columns edge_rows))
+graph-fits node_rows edge_rows node_columns edge_columns nc ec i e = record {
+  few_nodes = i.few;
+  small_ids = i.small;
+  distinct_ids = i.distinct;
+  few_node_columns = nc.0;
+  node_names = nc.1;
+  node_cells = columns-fit node_rows 1 (length (ids_of node_rows)) node_columns (length-map node_rows id_of_row);
+  few_edges = e.few;
+  ends = e.among;
+  few_edge_columns = ec.0;
+  edge_names = ec.1;
+  edge_cells = columns-fit edge_rows 2 (length (map (ends_of_row (ids_of node_rows)) edge_rows)) edge_columns (length-map edge_rows (ends_of_row (ids_of node_rows)));
+}

@@ -1,13 +1,11 @@
 -- The last colon of a field, and the column that the field spells.
-use Rattle.std.proofs.Common.{◌≡◌, ◌≢◌, ◌∙◌, sym, refl, ap, ℕ, suc, ◌<◌, Bool, true, false, List, [], ◌∷◌, ◌++◌, length, take, drop, get_or, Option, Some, None, option_and_then, if◌then◌else◌, arith, lit<}
+use Rattle.std.proofs.Common.{◌≡◌, ◌≢◌, ◌∙◌, sym, refl, ap, ℕ, suc, ◌<◌, Bool, true, false, List, [], ◌∷◌, ◌++◌, length, take, drop, get_or, Option, Some, None, if◌then◌else◌, arith, lit<}
 use Rattle.std.specs.Prelude.{◌==◌}
-use Rattle.std.specs.Str.{IsUtf8, is_utf8}
 use Rattle.std.specs.Str.Pattern.{RFindsChar, SplitsAroundMatch}
-use Rattle.std.proofs.lemmas.Str.{IsUtf8-from_is_utf8, is_utf8-from_IsUtf8}
 use Rattle.std.proofs.lemmas.Str.Pattern.{NoCharPasses-char, drop_at_char}
 use Rattle.std.proofs.lemmas.List.{take-append-drop}
 use Rattle.std.proofs.lemmas.Bool.Decides.{nat_tests}
-use Rattle.graph_loader.specs.Spelling.{cut_at_last_colon, column_named, kind_spelled, column_spelled}
+use Rattle.graph_loader.specs.Spelling.{cut_at_last_colon}
 
 no-colon : (bs : List ℕ) → ((i : ℕ) → i < length bs → get_or bs i 0 ≢ 58) → cut_at_last_colon bs ≡ None
 no-colon [] h = refl
@@ -30,15 +28,3 @@ split-is-cut bs front back s =
     let tail : drop s.0 bs ≡ 58 ∷ back = drop_at_char 58 bs s.0 s.1 found.1 (lit< tt) ∙ ap (λ (l : List ℕ). 58 ∷ l) (sym s.4) in
     let whole : bs ≡ front ++ 58 ∷ back = sym (take-append-drop s.0 bs) ∙ ap (λ (l : List ℕ). take s.0 bs ++ l) tail ∙ ap (λ (l : List ℕ). l ++ 58 ∷ back) (sym s.3) in
     rw whole (last-colon front back none)
-
--- ---- columns
-
-pub not-text : (field : List ℕ) → (IsUtf8 field → ⊥) → column_spelled field ≡ None
-not-text field h = cases (is_utf8 field) refl where
-  cases : (t : Bool) → is_utf8 field ≡ t → (if t then option_and_then (λ p. option_and_then (column_named p.0) (kind_spelled p.1)) (cut_at_last_colon field) else None) ≡ None
-  cases true e = absurd (h (IsUtf8-from_is_utf8 field e))
-  cases false e = refl
-
-pub text-column : (field : List ℕ) (cut : Option (List ℕ × List ℕ)) → IsUtf8 field → cut_at_last_colon field ≡ cut
-    → column_spelled field ≡ option_and_then (λ p. option_and_then (column_named p.0) (kind_spelled p.1)) cut
-text-column field cut text e = rw (is_utf8-from_IsUtf8 field text, e) refl

@@ -1,14 +1,16 @@
 -- What a read of a record takes from the records that are left.
-use Rattle.std.proofs.Common.{◌≡◌, ◌∙◌, ◌⊎◌, inl, inr, sym, ap, refl, ℕ, zero, suc, ◌+◌, ◌<◌, Bool, true, false, List, [], ◌∷◌, ◌++◌, length, take, drop, not, ◌==◌, ◌&&◌, Option, Some, None, Result, Ok, Err, IfOk, MatchResult, IsErrAnd, arith, add-one, if◌then◌else◌}
+use Rattle.std.proofs.Common.{◌≡◌, ◌∙◌, ◌⊎◌, inl, inr, sym, ap, refl, ℕ, zero, suc, ◌+◌, ◌<◌, Bool, true, false, List, [], ◌∷◌, ◌++◌, length, take, drop, not, ◌==◌, ◌&&◌, Option, Some, None, arith, add-one, if◌then◌else◌}
 use Rattle.std.proofs.lemmas.Bool.{false≢true}
 use Rattle.std.specs.Borrow.{Bor}
 use Rattle.csv.specs.Machine.{Read, next_record, step, ends_at_end, is_end, fields_after, field_after}
-use Rattle.csv.specs.Reading.{records_from, records_next, default_config, has_failed, strip_bom, source_of, pending_of, ReadRecord, ReadsNext, NextIs}
+use Rattle.csv.specs.Reading.{records_from, records_next, default_config, has_failed, strip_bom, source_of, pending_of, ExplainsRead, ReadRecord, ReadsNext, NextIs}
 use Rattle.csv.specs.declared.parser.Config.{Config}
 use Rattle.csv.specs.declared.parser.State.{State}
 use Rattle.csv.specs.declared.parser.State.TheVariants as st
 use Rattle.csv.specs.declared.reader.Reader.{Reader}
-use Rattle.graph_loader.specs.RowsLeft.{IsReady, left_of, rows_from, given}
+use Rattle.csv.specs.declared.error.ErrorKind.{ErrorKind}
+use Rattle.csv.specs.declared.error.ErrorKind.TheVariants as kind
+use Rattle.graph_loader.specs.RowsLeft.{IsOfSource, IsReady, left_of, rows_from, given}
 
 -- what a read leaves: nothing, or less than there was
 Shorter : List ℕ → Read → Type 0
@@ -95,9 +97,19 @@ given-left a b found f ready r =
     let k = known-source a ready.sound in
     given-known a b found f k.0 ready.config k.1 r
 
--- what holds of a result's value holds with another error too
-pub with_other_error : {A E D : Type 0} (P : A → Type 0) (Q : E → D → Type 0) (r : Result A E) (q : Result A D)
-    → MatchResult r (λ x. q ≡ Ok x) (λ e. IsErrAnd q (Q e)) → IfOk r P → IfOk q P
-with_other_error P Q (Ok x) q h p = rw h p
-with_other_error P Q (Err e) (Ok y) h p = absurd h
-with_other_error P Q (Err e) (Err d) h p = tt
+-- why a read by a reader that is ready fails
+pub fails-of-source : (a b : Reader (Bor (List ℕ))) (k : ErrorKind) → IsReady a → ExplainsRead (λ (s : Bor (List ℕ)). Some s.now) a b false k → IsOfSource k
+fails-of-source a b (kind.Io e) ready why = tt
+fails-of-source a b kind.OutOfMemory ready why = tt
+fails-of-source a b (kind.UnequalLengths pos expected len) ready why = false≢true (sym why.0 ∙ ready.flexible)
+fails-of-source a b (kind.Utf8 pos err) ready why = false≢true why.0
+fails-of-source a b (kind.Serialize text) ready why = why
+fails-of-source a b (kind.Deserialize pos err) ready why = why
+
+pub only-of-source : (k : ErrorKind) → IsOfSource k → (k ≡ kind.OutOfMemory → ⊥) → ((e : _) → k ≡ kind.Io e → ⊥) → ⊥
+only-of-source (kind.Io e) of memory io = io e refl
+only-of-source kind.OutOfMemory of memory io = memory refl
+only-of-source (kind.UnequalLengths pos expected len) of memory io = of
+only-of-source (kind.Utf8 pos err) of memory io = of
+only-of-source (kind.Serialize text) of memory io = of
+only-of-source (kind.Deserialize pos err) of memory io = of

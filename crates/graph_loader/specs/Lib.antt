@@ -1,7 +1,5 @@
-pub mod Same
-pub mod GraphData
-pub mod GraphInside
 pub mod Spelling
 pub mod DataFiles
+pub mod Answers
 pub mod RowsLeft
 pub mod LoadSteps

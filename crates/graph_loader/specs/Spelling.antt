@@ -1,12 +1,12 @@
 -- What one field of a data file spells. A field is a list of bytes.
-use Rattle.std.specs.Prelude.{ℕ, ℤ, pos, neg_ℤ, ◌-◌, ◌^◌, Bool, not, ◌&&◌, ◌==◌, nat_le, nat_lt, List, [], ◌∷◌, length, map, codes, Option, Some, None, option_map, option_and_then, if◌then◌else◌}
+use Rattle.std.specs.Prelude.{ℕ, ℤ, pos, neg_ℤ, ◌-◌, ◌^◌, Bool, true, false, not, ◌&&◌, ◌||◌, ◌==◌, nat_le, nat_lt, List, [], ◌∷◌, length, map, codes, Option, Some, None, option_map, option_and_then, if◌then◌else◌}
 use Rattle.std.specs.Char.{is_ascii_digit}
 use Rattle.std.specs.List.{list_all}
 use Rattle.std.specs.Int.Digits.{number_from_digits}
-use Rattle.std.specs.Str.{is_utf8, bytes_eq}
-use Rattle.graph_loader.specs.declared.cell.Kind.{Kind}
-use Rattle.graph_loader.specs.declared.cell.Kind.TheVariants as kind
-use Rattle.graph_loader.specs.declared.cell.Column.{Column}
+use Rattle.std.specs.Str.{bytes_eq}
+use Rattle.graph_model.specs.declared.cell.Kind.{Kind}
+use Rattle.graph_model.specs.declared.cell.Kind.TheVariants as kind
+use Rattle.graph_model.specs.declared.cell.Column.{Column}
 
 -- ---- numbers
 
@@ -36,6 +36,19 @@ abbrev pub int_spelled : List ℕ → Option (Option ℤ)
 int_spelled [] = Some None
 int_spelled (b ∷ rest) = option_map (λ z. Some z) (signed_spelled (b ∷ rest))
 
+-- ---- truth values
+
+abbrev pub is_true_word : List ℕ → Bool
+is_true_word field = bytes_eq field (codes "true") || bytes_eq field (codes "True") || bytes_eq field (codes "TRUE")
+
+abbrev pub is_false_word : List ℕ → Bool
+is_false_word field = bytes_eq field (codes "false") || bytes_eq field (codes "False") || bytes_eq field (codes "FALSE")
+
+-- a cell of a column of truth values: the empty field is an absent cell
+abbrev pub bool_spelled : List ℕ → Option (Option Bool)
+bool_spelled [] = Some None
+bool_spelled (b ∷ rest) = if is_true_word (b ∷ rest) then Some (Some true) else if is_false_word (b ∷ rest) then Some (Some false) else None
+
 -- ---- the header
 
 abbrev pub colon : ℕ
@@ -60,13 +73,16 @@ is_property name =
     nat_le 1 (length name) && not (bytes_eq name (codes "id")) && not (bytes_eq name (codes "src")) && not (bytes_eq name (codes "dst")) && list_all is_printing name
 
 abbrev pub kind_spelled : List ℕ → Option Kind
-kind_spelled word = if bytes_eq word (codes "int") then Some kind.Int else None
+kind_spelled word =
+    if bytes_eq word (codes "int") then Some kind.Int
+    else if bytes_eq word (codes "str") then Some kind.Str
+    else if bytes_eq word (codes "bool") then Some kind.Bool
+    else None
 
 -- the column of this name and this kind, if it may have this name
 abbrev pub column_named : List ℕ → Kind → Option Column
 column_named name k = if is_property name then Some (record { name = name; kind = k }) else None
 
--- the column of a property, from its field in the header: name, colon, kind
+-- the column of a property, from its field in the header, which is text: name, colon, kind
 abbrev pub column_spelled : List ℕ → Option Column
-column_spelled field =
-    if is_utf8 field then option_and_then (λ p. option_and_then (column_named p.0) (kind_spelled p.1)) (cut_at_last_colon field) else None
+column_spelled field = option_and_then (λ p. option_and_then (column_named p.0) (kind_spelled p.1)) (cut_at_last_colon field)

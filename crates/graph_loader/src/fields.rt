@@ -1,23 +1,18 @@
 //! The fields of a record.
 
-ghost use Rattle.std.specs.Prelude.{◌≡◌, ◌≢◌, [], ◌∷◌, length, MatchOption};
+ghost use Rattle.std.specs.Prelude.{◌≡◌, ◌<◌, length};
 ghost use Rattle.csv.specs.Records.{fields_of};
+ghost use Rattle.graph_loader.specs.DataFiles.{field_of};
 
 use csv::ByteRecord;
 
-/// The field of a record that has exactly one.
-pub(crate) fn only_field(row: &ByteRecord) -> Option<&[u8]>
-    ensures { MatchOption result (length (fields_of row.now) ≢ 1) (λ f. fields_of row.now ≡ f.now ∷ []) }
+/// The field at a place of a record, the first at 0.
+pub(crate) fn field(row: &ByteRecord, place: usize) -> &[u8]
+    requires { place < length (fields_of row.now) }
+    ensures { result.now ≡ field_of (fields_of row.now) place }
 {
-    if row.len() == 1 { row.get(0) } else { None }
-}
-
-/// The fields of a record that has exactly three.
-pub(crate) fn three_fields(row: &ByteRecord) -> Option<(&[u8], &[u8], &[u8])>
-    ensures { MatchOption result (length (fields_of row.now) ≢ 3) (λ t. fields_of row.now ≡ t.0.now ∷ (t.1.now ∷ (t.2.now ∷ []))) }
-{
-    if row.len() != 3 {
-        return None;
+    match row.get(place) {
+        Some(field) => field,
+        None => unreachable!(),
     }
-    Some((row.get(0)?, row.get(1)?, row.get(2)?))
 }

@@ -1,67 +1,122 @@
 //! The header of a data file.
 
-ghost use Rattle.std.specs.Prelude.{◌≡◌, IfOk, option_map, MatchOption};
-ghost use Rattle.csv.specs.Records.{fields_of};
-ghost use Rattle.graph_loader.specs.DataFiles.{has_mark, is_nodes_header, column_in};
-ghost use Rattle.graph_loader.specs.Spelling.{column_spelled, kind_spelled, is_property, is_printing};
+ghost use Rattle.std.specs.Prelude.{◌≡◌, ◌+◌, ◌<◌, ◌≤◌, ◌^◌, [], drop, length, option_map, Result, Ok, Err};
 ghost use Rattle.std.specs.List.{list_all};
+ghost use Rattle.csv.specs.Records.{fields_of};
+ghost use Rattle.graph_loader.specs.Answers.{Answers, Tells};
+ghost use Rattle.graph_loader.specs.DataFiles.{blame, columns_after, first_words, has_name, properties_from, property_in, result_map, result_map_err};
+ghost use Rattle.graph_loader.specs.declared.fault.DataFile.TheVariants as file;
+ghost use Rattle.graph_loader.specs.LoadSteps.{column_parts, word_fault};
+ghost use Rattle.graph_loader.specs.Spelling.{column_spelled, kind_spelled, is_property, is_printing};
 
-use crate::cell::{Column, Kind};
-use crate::fields::{only_field, three_fields};
+use crate::fault::{DataKind, Refusal};
+use crate::fields::field;
 use csv::ByteRecord;
+use graph_model::{Column, Kind};
 use std::alloc::Global;
-use surge_outside::{NoMemory, Text};
+use surge_outside::{List, Text};
 
-/// Whether a file starts with a byte order mark.
-pub(crate) fn starts_with_mark(bytes: &[u8]) -> bool
-    ensures { result ≡ has_mark bytes.now }
+/// A file has at most so many properties.
+const MOST_PROPERTIES: usize = 16;
+
+/// The properties of a nodes file, from its header: `id` and then properties.
+pub(crate) fn node_columns(alloc: Global, row: &ByteRecord) -> Result<List<Column>, Refusal>
+    ensures { Answers (columns_after 1 (first_words file.Nodes) (fields_of row.now)) result }
 {
-    bytes.len() >= 3 && bytes[0] == 0xEF && bytes[1] == 0xBB && bytes[2] == 0xBF
+    expect_word(row, 0, "id")?;
+    properties(alloc, row, 1)
 }
 
-/// Whether a record is the header of a nodes file: the one field `id`.
-pub(crate) fn is_node_header(row: &ByteRecord) -> bool
-    ensures { result ≡ is_nodes_header (fields_of row.now) }
+/// The properties of an edges file, from its header: `src`, `dst` and then properties.
+pub(crate) fn edge_columns(alloc: Global, row: &ByteRecord) -> Result<List<Column>, Refusal>
+    ensures { Answers (columns_after 1 (first_words file.Edges) (fields_of row.now)) result }
 {
-    match only_field(row) {
-        Some(field) => field == b"id".as_slice(),
-        None => false,
-    }
+    expect_word(row, 0, "src")?;
+    expect_word(row, 1, "dst")?;
+    properties(alloc, row, 2)
 }
 
-/// The column that the header of an edges file gives: `src`, `dst` and one property.
-pub(crate) fn edge_column(alloc: Global, row: &ByteRecord) -> Result<Option<Column>, NoMemory>
-    ensures { IfOk result (λ column. column ≡ column_in (fields_of row.now)) }
+/// Refuses a header that has another field than this word at this place, or none.
+fn expect_word(row: &ByteRecord, place: usize, word: &str) -> Result<(), Refusal>
+    requires { place < 2 }
+    ensures { Tells (word_fault (fields_of row.now) place word.now) result }
 {
-    let Some((source, destination, property)) = three_fields(row) else {
-        return Ok(None);
-    };
-    if source == b"src".as_slice() && destination == b"dst".as_slice() {
-        column_from(alloc, property)
+    if place < row.len() && field(row, place) == word.as_bytes() {
+        Ok(())
     } else {
-        Ok(None)
+        Err(Refusal::blame(place as u32 + 1, DataKind::BadHeader))
     }
 }
 
-/// The column that the field of a property spells, as `name:kind`.
-fn column_from(alloc: Global, field: &[u8]) -> Result<Option<Column>, NoMemory>
-    ensures { IfOk result (λ column. column ≡ column_spelled field.now) }
+/// The properties that the fields of a header name from this place on.
+fn properties(alloc: Global, row: &ByteRecord, first: usize) -> Result<List<Column>, Refusal>
+    requires { first ≤ 2 }
+    ensures { Answers (properties_from (first + 1) [] (drop first (fields_of row.now))) result }
 {
-    let Some((name, kind)) = property_from(field) else {
-        return Ok(None);
+    let mut columns = List::new(alloc);
+    for place in first..row.len() {
+        let column = place as u32 + 1;
+        let property = property_after(alloc, columns.as_slice(), column, field(row, place))?;
+        columns.push(property)?;
+    }
+    Ok(columns)
+}
+
+/// The property that a field of a header names, in this column after those of the earlier ones.
+fn property_after(
+    alloc: Global,
+    earlier: &[Column],
+    column: u32,
+    field: &[u8],
+) -> Result<Column, Refusal>
+    ensures { Answers (result_map_err (blame column) (property_in earlier.now field.now)) result }
+{
+    match named_property(earlier, field) {
+        Ok((name, kind)) => match String::from_str(alloc, name) {
+            Ok(name) => Ok(Column {
+                name: Text::from_string(name),
+                kind,
+            }),
+            Err(_) => Err(Refusal::NoMemory),
+        },
+        Err(kind) => Err(Refusal::blame(column, kind)),
+    }
+}
+
+/// The name and the kind of the property that a field of a header names, after those of the earlier columns.
+fn named_property<'a>(earlier: &[Column], field: &'a [u8]) -> Result<(&'a str, Kind), DataKind>
+    ensures { result_map column_parts result ≡ property_in earlier.now field.now }
+{
+    if earlier.len() >= MOST_PROPERTIES {
+        return Err(DataKind::TooManyColumns);
+    }
+    let Ok(text) = str::from_utf8(field) else {
+        return Err(DataKind::NotUtf8);
     };
-    let name = Text::from_string(String::from_str(alloc, name)?);
-    Ok(Some(Column { name, kind }))
+    match property_from(text) {
+        Some((name, kind)) => {
+            if has_column(earlier, name) {
+                Err(DataKind::BadHeader)
+            } else {
+                Ok((name, kind))
+            }
+        }
+        None => Err(DataKind::BadHeader),
+    }
+}
+
+/// Whether one of these columns has this name.
+fn has_column(columns: &[Column], name: &str) -> bool
+    ensures { result ≡ has_name columns.now name.now }
+{
+    columns.iter().any(|column| column.name.as_str() == name)
 }
 
 /// The name and the kind of a property, which the last colon of its field parts.
-fn property_from(field: &[u8]) -> Option<(&str, Kind)>
-    ensures { option_map (λ p. record { name = p.0.now; kind = p.1 }) result ≡ column_spelled field.now }
+fn property_from(field: &str) -> Option<(&str, Kind)>
+    ensures { option_map column_parts result ≡ column_spelled field.now }
 {
-    let Ok(text) = str::from_utf8(field) else {
-        return None;
-    };
-    let (name, word) = text.rsplit_once(':')?;
+    let (name, word) = field.rsplit_once(':')?;
     let kind = kind_from(word)?;
     if is_property_name(name) {
         Some((name, kind))
@@ -74,7 +129,15 @@ fn property_from(field: &[u8]) -> Option<(&str, Kind)>
 fn kind_from(word: &str) -> Option<Kind>
     ensures { result ≡ kind_spelled word.now }
 {
-    if word == "int" { Some(Kind::Int) } else { None }
+    if word == "int" {
+        Some(Kind::Int)
+    } else if word == "str" {
+        Some(Kind::Str)
+    } else if word == "bool" {
+        Some(Kind::Bool)
+    } else {
+        None
+    }
 }
 
 /// Whether a property may have this name: it isn't empty, isn't the name of a column of ids, and holds no control byte.

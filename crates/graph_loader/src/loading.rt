@@ -1,79 +1,57 @@
 //! From two data files to a graph.
 
-ghost use Rattle.std.specs.Prelude.{◌≡◌, None, Some, IsSome, IfOk};
-ghost use Rattle.graph_loader.specs.DataFiles.{ids_of, graph_of};
-ghost use Rattle.graph_loader.specs.GraphData.{IsGraphData};
+ghost use Rattle.std.specs.Prelude.{◌≡◌, ◌≢◌, IfErr, IfOk};
+ghost use Rattle.graph_model.specs.GraphData.{IsGraphData};
+ghost use Rattle.graph_loader.specs.Answers.{IfFault};
+ghost use Rattle.graph_loader.specs.DataFiles.{graph_of};
+ghost use Rattle.graph_loader.specs.declared.fault.DataKind.TheVariants as wrong;
 
 use crate::edges::{EdgeTable, edge_table};
-use crate::graph::Graph;
-use crate::nodes::node_ids;
+use crate::fault::LoadFault;
+use crate::nodes::{NodeTable, node_table};
+use graph_model::Graph;
 use std::alloc::Global;
 use surge_outside::{List, NoMemory};
-use thiserror::Error;
 
-/// One of the two files that a graph is loaded from.
-#[derive(Clone, Copy, Debug, PartialEq, Eq)]
-pub enum DataFile {
-    /// The file that lists the nodes by their ids.
-    Nodes,
-    /// The file that lists the edges between them.
-    Edges,
-}
-
-/// Why no graph was loaded.
-#[derive(Clone, Copy, Debug, PartialEq, Eq, Error)]
-pub enum LoadFault {
-    /// The file isn't of the form that [`load`] accepts. The nodes file is judged wholly before the edges file.
-    #[error("the file isn't of the form that is built")]
-    NotBuilt(DataFile),
-    /// A request for memory was refused.
-    #[error("out of memory")]
-    NoMemory,
-}
-
-impl From<NoMemory> for LoadFault {
-    ghost use Rattle.graph_loader.specs.declared.loading.LoadFault.TheVariants as fault;
-
-    ghost from_gives = { λ _ e. e ≡ fault.NoMemory };
-
-    fn from(_error: NoMemory) -> LoadFault {
-        LoadFault::NoMemory
-    }
-}
-
-/// The graph that the bytes of a nodes file and of an edges file spell.
+/// The graph that the bytes of a nodes file and of an edges file spell, or their first fault.
 ///
 /// Both are comma-separated (RFC 4180): fields are plain or stand in double quotes, a record ends at a line's end, and
-/// blank lines are no records. Neither starts with a byte order mark.
+/// blank lines are no records. One byte order mark at the start of a file is skipped.
 ///
-/// - The nodes file has the header `id`. Each of its other records, at most 1,000,000, is the id of a node: 1 to 19
-///   decimal digits of value at most 2^63 - 1, and no id of an earlier record. Leading zeros don't count.
-/// - The edges file has the header `src`, `dst` and `name:int`, where the name of the property is text with no control
-///   byte, isn't empty, and isn't `id`, `src` or `dst`. Each of its other records, at most 4,000,000, has the ids of two
-///   nodes and a cell: empty, or a number from -(2^63 - 1) to 2^63 - 1 as 1 to 19 digits behind an optional minus sign.
+/// - The header of the nodes file is `id`, and that of the edges file is `src`, `dst`; behind these each has up to 16
+///   properties `name:kind`, of kind `int`, `str` or `bool`. The last colon parts the two. The name is text with no
+///   control byte, isn't empty, isn't `id`, `src` or `dst`, and no earlier property of the file has it.
+/// - Each other record, of which there are up to 1,000,000 nodes and up to 4,000,000 edges, has a field for each field of
+///   the header. An id is 1 to 19 decimal digits of value at most 2^63 - 1; leading zeros don't count. No two nodes have
+///   one id, and each end of an edge is the id of a node.
+/// - The field of a property is text. Of kind `int` it is empty, which is an absent cell, or a number from -(2^63 - 1) to
+///   2^63 - 1 as 1 to 19 digits behind an optional minus sign; of kind `bool` it is empty or one of `true`, `True`,
+///   `TRUE`, `false`, `False` and `FALSE`; of kind `str` it is any text, and never absent.
 ///
-/// Nodes and edges are numbered in the order of the files, from 0. The time is that of a hash look-up for each id and a
-/// sort of the nodes. `NotBuilt` is the answer exactly where a file isn't of this form; nothing is read behind the record
-/// that breaks it. `NoMemory` says that a request for memory was refused.
+/// Nodes and edges are numbered in the order of the files, from 0. The time is that of reading the files, of a hash
+/// look-up for each id and each end, and of a sort of the nodes.
+///
+/// `Fault` tells the first fault. The nodes file is judged wholly before the edges file, and each file record by record
+/// from the top: the header from the left, and of another record first whether there is one too many, then how many
+/// fields it has, then its fields from the left. `NoMemory` says that a request for memory was refused.
 pub fn load(alloc: Global, nodes: &[u8], edges: &[u8]) -> Result<Graph, LoadFault>
-    ensures ok { IfOk result (λ g. graph_of nodes.now edges.now ≡ Some g) }
-    ensures fits { IfOk result (λ g. IsGraphData g) }
-    ensures nodes { result ≡ Err (LoadFault.NotBuilt DataFile.Nodes) → ids_of nodes.now ≡ None }
-    ensures edges { result ≡ Err (LoadFault.NotBuilt DataFile.Edges) → IsSome (ids_of nodes.now) × (graph_of nodes.now edges.now ≡ None) }
+    ensures ok { IfOk result (λ g. graph_of nodes.now edges.now ≡ Ok g) }
+    ensures fits { IfOk result IsGraphData }
+    ensures fault { IfErr result (λ e. IfFault e (λ f. graph_of nodes.now edges.now ≡ Err f)) }
+    ensures size { IfErr result (λ e. IfFault e (λ f. f.kind ≢ wrong.TooLarge)) }
 {
-    let Some(ids) = node_ids(alloc, nodes)? else {
-        return Err(LoadFault::NotBuilt(DataFile::Nodes));
-    };
-    let Some(table) = edge_table(alloc, &ids, edges)? else {
-        return Err(LoadFault::NotBuilt(DataFile::Edges));
-    };
+    let NodeTable {
+        ids,
+        columns: node_columns,
+        cells: node_cells,
+    } = node_table(alloc, nodes)?;
     let EdgeTable {
         ends,
         columns,
         cells,
-    } = table;
+    } = edge_table(alloc, &ids, edges)?;
     let ids = listed(alloc, ids.as_slice())?;
-    Ok(Graph::new(alloc, ids, ends, columns, cells)?)
+    Ok(Graph::new(alloc, ids, node_columns, node_cells, ends, columns, cells)?)
 }
 
 /// The same numbers as a list.

@@ -1,11 +1,12 @@
 //! The records of a data file, one after the other.
 
 ghost use Rattle.std.specs.Prelude.{◌≡◌, IfOk, OnOk};
+ghost use Rattle.csv.specs.Reading.{error_kind};
 ghost use Rattle.csv.specs.Records.{fields_of};
 ghost use Rattle.graph_loader.specs.DataFiles.{records_of};
-ghost use Rattle.graph_loader.specs.RowsLeft.{IsReady, left_of, given};
+ghost use Rattle.graph_loader.specs.RowsLeft.{IsOfSource, IsReady, given, left_of};
 
-use csv::{ByteRecord, Reader, ReaderBuilder, Trim};
+use csv::{ByteRecord, Error, ErrorKind, Reader, ReaderBuilder, Trim};
 use std::alloc::Global;
 use surge_outside::NoMemory;
 
@@ -39,10 +40,10 @@ impl<'a> Rows<'a> {
         ensures ready { OnOk result (IsReady self.new.reader) }
         ensures row { IfOk result (λ found. left_of self.old.reader ≡ given found (fields_of self.new.row) (left_of self.new.reader)) }
     {
-        // A slice can be read without fail and a record may have any width, so what is refused is memory.
-        self.reader
-            .read_byte_record(&mut self.row)
-            .map_err(|_| NoMemory)
+        match self.reader.read_byte_record(&mut self.row) {
+            Ok(found) => Ok(found),
+            Err(error) => Err(refused(&error)),
+        }
     }
 
     /// The record that was read last.
@@ -50,5 +51,15 @@ impl<'a> Rows<'a> {
         ensures { result.now ≡ self.now.row }
     {
         &self.row
+    }
+}
+
+/// Want of memory, from an error of a reader of bytes whose records may have any width. A slice is read without fail.
+fn refused(error: &Error) -> NoMemory
+    requires { IsOfSource (error_kind error.now) }
+{
+    match error.kind() {
+        ErrorKind::OutOfMemory | ErrorKind::Io(_) => NoMemory,
+        _ => unreachable!(),
     }
 }

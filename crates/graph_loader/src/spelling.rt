@@ -1,9 +1,7 @@
 //! What a field of a data file spells.
 
-ghost use Rattle.std.specs.Prelude.{◌≡◌, ◌+◌, ◌<◌, ◌^◌, length, option_map, map, take};
-ghost use Rattle.graph_loader.specs.Spelling.{id_spelled, signed_spelled, int_spelled, column_spelled, is_property};
-
-use crate::cell::Kind;
+ghost use Rattle.std.specs.Prelude.{◌≡◌, ◌+◌, ◌<◌, ◌^◌, length, map, take};
+ghost use Rattle.graph_loader.specs.Spelling.{id_spelled, signed_spelled, int_spelled, bool_spelled, is_true_word, is_false_word};
 
 /// An id has at most so many digits, leading zeros among them.
 const MOST_DIGITS: usize = 19;
@@ -51,4 +49,34 @@ pub(crate) fn int_from(field: &[u8]) -> Option<Option<i64>>
         return Some(None);
     }
     Some(Some(signed_from(field)?))
+}
+
+/// The cell that a field of a column of truth values spells: absent where it is empty.
+/// `None` is a field that is no such cell.
+pub(crate) fn bool_from(field: &[u8]) -> Option<Option<bool>>
+    ensures { result ≡ bool_spelled field.now }
+{
+    if field.is_empty() {
+        Some(None)
+    } else if spells_true(field) {
+        Some(Some(true))
+    } else if spells_false(field) {
+        Some(Some(false))
+    } else {
+        None
+    }
+}
+
+/// Whether a field is a word for true.
+fn spells_true(field: &[u8]) -> bool
+    ensures { result ≡ is_true_word field.now }
+{
+    field == b"true".as_slice() || field == b"True".as_slice() || field == b"TRUE".as_slice()
+}
+
+/// Whether a field is a word for false.
+fn spells_false(field: &[u8]) -> bool
+    ensures { result ≡ is_false_word field.now }
+{
+    field == b"false".as_slice() || field == b"False".as_slice() || field == b"FALSE".as_slice()
 }

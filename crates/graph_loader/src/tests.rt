@@ -1,57 +1,97 @@
-//! Small files and what they load as.
+//! Small files, and what they load as.
 
 ghost use Rattle.std.specs.Prelude.{◌<◌, length};
 
-use crate::{CellRef, DataFile, EdgeNo, Graph, LoadFault, NodeNo, load};
+use crate::{DataFault, LoadFault, load};
+use graph_model::{CellRef, Column, EdgeNo, Graph, Kind, NodeNo};
 use std::alloc::{AllocError, Global};
+use std::process::Abort;
 use std::test::Fail;
+use surge_outside::List;
 
 /// A nodes file with four nodes.
-const NODES: &str = "id\n1\n2\n3\n4\n";
+const NODES: &[u8] = b"id\n1\n2\n3\n4\n";
 
-// The ids, then the nodes by rising id.
-fn nodes_text(alloc: Global, graph: &Graph) -> Result<String, AllocError> {
-    let mut text = String::new(alloc);
-    for n in 0..graph.node_count() {
-        let part = format!(in alloc; "{} ", graph.id(NodeNo(n)))?;
-        text.push_str(part.as_str())?;
+/// An edges file between them.
+const EDGES: &[u8] = b"src,dst,y:int\n1,2,1\n2,3,1\n1,3,2\n3,4,3\n";
+
+// A cell with a comma before it: a text stands in single quotes, and an absent cell is a hyphen.
+fn cell_text(alloc: Global, cell: CellRef<'_>) -> Result<String, AllocError> {
+    match cell {
+        CellRef::Absent => format!(in alloc; ",-"),
+        CellRef::Int(number) => format!(in alloc; ",{number}"),
+        CellRef::Str(text) => format!(in alloc; ",'{text}'"),
+        CellRef::Bool(truth) => format!(in alloc; ",{truth}"),
     }
-    text.push_str("/")?;
-    for n in 0..graph.node_count() {
-        let part = format!(in alloc; " {}", graph.by_id(n).0)?;
-        text.push_str(part.as_str())?;
+}
+
+// The name and the kind of each column.
+fn columns_text(alloc: Global, columns: &List<Column>) -> Result<String, AllocError> {
+    let mut text = String::new(alloc);
+    for column in columns.as_slice() {
+        text.push_str(column.name.as_str())?;
+        let kind = match column.kind {
+            Kind::Int => ":int ",
+            Kind::Str => ":str ",
+            Kind::Bool => ":bool ",
+        };
+        text.push_str(kind)?;
     }
     Ok(text)
 }
 
-// The cells of an edge.
-fn cells_text(alloc: Global, graph: &Graph, e: EdgeNo) -> Result<String, AllocError>
+// The id of a node and its cells.
+fn node_text(alloc: Global, graph: &Graph, n: NodeNo) -> Result<String, AllocError>
+    requires { n.0 < length graph.now.ids }
+{
+    let mut text = format!(in alloc; "{}", graph.id(n))?;
+    for column in 0..graph.node_columns().len() {
+        let cell = cell_text(alloc, graph.node_cell(n, column))?;
+        text.push_str(cell.as_str())?;
+    }
+    Ok(text)
+}
+
+// The columns of the nodes, and then the nodes.
+fn nodes_text(alloc: Global, graph: &Graph) -> Result<String, AllocError> {
+    let mut text = columns_text(alloc, graph.node_columns())?;
+    for n in 0..graph.node_count() {
+        let node = node_text(alloc, graph, NodeNo(n))?;
+        text.push_str(node.as_str())?;
+        text.push_str(" ")?;
+    }
+    Ok(text)
+}
+
+// The numbers of an edge's ends, and its cells.
+fn edge_text(alloc: Global, graph: &Graph, e: EdgeNo) -> Result<String, AllocError>
     requires { e.0 < length graph.now.ends }
 {
-    let mut text = String::new(alloc);
+    let mut text = format!(in alloc; "{}>{}", graph.src(e).0, graph.dst(e).0)?;
     for column in 0..graph.edge_columns().len() {
-        let part = match graph.edge_cell(e, column) {
-            CellRef::Absent => format!(in alloc; "-")?,
-            CellRef::Int(number) => format!(in alloc; "{number}")?,
-        };
-        text.push_str(part.as_str())?;
+        let cell = cell_text(alloc, graph.edge_cell(e, column))?;
+        text.push_str(cell.as_str())?;
     }
     Ok(text)
 }
 
-// The columns, then the edges with their cells.
+// The columns of the edges, and then the edges.
 fn edges_text(alloc: Global, graph: &Graph) -> Result<String, AllocError> {
-    let mut text = String::new(alloc);
-    for column in graph.edge_columns().as_slice() {
-        text.push_str(column.name.as_str())?;
-    }
+    let mut text = columns_text(alloc, graph.edge_columns())?;
     for e in 0..graph.edge_count() {
-        let edge = EdgeNo(e);
-        let cells = cells_text(alloc, graph, edge)?;
-        let part = format!(in alloc; " {}>{}={}", graph.src(edge).0, graph.dst(edge).0, cells)?;
-        text.push_str(part.as_str())?;
+        let edge = edge_text(alloc, graph, EdgeNo(e))?;
+        text.push_str(edge.as_str())?;
+        text.push_str(" ")?;
     }
     Ok(text)
+}
+
+// A fault as its place and kind.
+fn fault_text(alloc: Global, fault: DataFault) -> Result<String, AllocError> {
+    format!(in alloc;
+        "{:?} record {} column {}: {:?}",
+        fault.file, fault.row, fault.column, fault.kind
+    )
 }
 
 // What two files load as.
@@ -60,85 +100,313 @@ fn loaded(alloc: Global, nodes: &[u8], edges: &[u8]) -> Result<String, AllocErro
         Ok(graph) => {
             let nodes = nodes_text(alloc, &graph)?;
             let edges = edges_text(alloc, &graph)?;
-            format!(in alloc; "{nodes} / {edges}")
+            format!(in alloc; "{nodes}/ {edges}")
         }
-        Err(LoadFault::NotBuilt(DataFile::Nodes)) => format!(in alloc; "nodes"),
-        Err(LoadFault::NotBuilt(DataFile::Edges)) => format!(in alloc; "edges"),
-        Err(LoadFault::NoMemory) => format!(in alloc; "memory"),
+        Err(LoadFault::Fault(fault)) => fault_text(alloc, fault),
+        Err(LoadFault::NoMemory) => format!(in alloc; "out of memory"),
     }
 }
 
-#[test]
-fn nodes_files(rt: HostRuntime) -> Result<(), Fail> {
-    let table = [
-        ("id\n10\n2\n7\n", "10 2 7 / 1 2 0 / y"),
-        ("id\r\n10\r\n2\r\n7\r\n", "10 2 7 / 1 2 0 / y"),
-        ("\"id\"\n\"10\"\n\n007", "10 7 / 1 0 / y"),
-        ("id\n", "/ / y"),
-        (
-            "id\n9223372036854775807\n0\n",
-            "9223372036854775807 0 / 1 0 / y",
-        ),
-        ("", "nodes"),
-        ("id,x:int\n", "nodes"),
-        ("Id\n", "nodes"),
-        ("\u{FEFF}id\n1\n", "nodes"),
-        ("id\n1\n01\n", "nodes"),
-        ("id\n-1\n", "nodes"),
-        ("id\n 1\n", "nodes"),
-        ("id\n1,2\n", "nodes"),
-        ("id\n9223372036854775808\n", "nodes"),
-        ("id\n00000000000000000001\n", "nodes"),
-    ];
-    for (nodes, wanted) in &table {
-        let text = loaded(rt.alloc(), nodes.as_bytes(), b"src,dst,y:int\n")?;
-        assert_eq!(rt; text.as_str(), *wanted);
-    }
+// Two files load as this.
+fn loads_as(
+    rt: &impl Abort,
+    alloc: Global,
+    nodes: &[u8],
+    edges: &[u8],
+    wanted: &str,
+) -> Result<(), AllocError> {
+    let text = loaded(alloc, nodes, edges)?;
+    assert_eq!(rt; text.as_str(), wanted);
     Ok(())
 }
 
 #[test]
-fn edges_files(rt: HostRuntime) -> Result<(), Fail> {
-    let table = [
-        (
-            "src,dst,y:int\n1,2,1\n2,3,1\n1,3,2\n3,4,3\n",
-            "1 2 3 4 / 0 1 2 3 / y 0>1=1 1>2=1 0>2=2 2>3=3",
-        ),
-        (
-            "src,dst,y:int\r\n1,2,1\r\n2,3,1\r\n1,3,2\r\n3,4,3\r\n",
-            "1 2 3 4 / 0 1 2 3 / y 0>1=1 1>2=1 0>2=2 2>3=3",
-        ),
-        (
-            "src,dst,\"a,b:c:int\"\n\"4\",04,\n\n4,4,\"5\"",
-            "1 2 3 4 / 0 1 2 3 / a,b:c 3>3=- 3>3=5",
-        ),
-        (
-            "src,dst,y:int\n1,2,-0\n1,2,-9223372036854775807\n",
-            "1 2 3 4 / 0 1 2 3 / y 0>1=0 0>1=-9223372036854775807",
-        ),
-        (
-            "src,dst,y:int\n1,2,9223372036854775807\n",
-            "1 2 3 4 / 0 1 2 3 / y 0>1=9223372036854775807",
-        ),
-        ("", "edges"),
-        ("src,dst\n1,2\n", "edges"),
-        ("dst,src,y:int\n1,2,1\n", "edges"),
-        ("src,dst,y:str\n", "edges"),
-        ("src,dst,y\n", "edges"),
-        ("src,dst,:int\n", "edges"),
-        ("src,dst,dst:int\n", "edges"),
-        ("src,dst,a\u{7F}:int\n", "edges"),
-        ("\u{FEFF}src,dst,y:int\n", "edges"),
-        ("src,dst,y:int\n1,5,1\n", "edges"),
-        ("src,dst,y:int\n1,2\n", "edges"),
-        ("src,dst,y:int\n1,2,+5\n", "edges"),
-        ("src,dst,y:int\n1,2,-\n", "edges"),
-        ("src,dst,y:int\n1,2,-9223372036854775808\n", "edges"),
-        ("src,dst,y:int\n1,2,00000000000000000005\n", "edges"),
-    ];
-    for (edges, wanted) in &table {
-        let text = loaded(rt.alloc(), NODES.as_bytes(), edges.as_bytes())?;
-        assert_eq!(rt; text.as_str(), *wanted);
-    }
+fn numbers_by_place(rt: HostRuntime) -> Result<(), Fail> {
+    loads_as(
+        &rt,
+        rt.alloc(),
+        NODES,
+        EDGES,
+        "1 2 3 4 / y:int 0>1,1 1>2,1 0>2,2 2>3,3 ",
+    )?;
+    loads_as(
+        &rt,
+        rt.alloc(),
+        b"id\n10\n007\n0\n",
+        b"src,dst\n7,10\n",
+        "10 7 0 / 1>0 ",
+    )?;
+    loads_as(
+        &rt,
+        rt.alloc(),
+        b"id\n9223372036854775807\n",
+        b"src,dst\n",
+        "9223372036854775807 / ",
+    )?;
+    Ok(())
+}
+
+#[test]
+fn typed_columns_of_nodes_and_edges(rt: HostRuntime) -> Result<(), Fail> {
+    loads_as(
+        &rt,
+        rt.alloc(),
+        b"id,city:str,vip:bool\r\n10,Los Angeles,true\r\n20,\"San Jose, CA\",false\r\n30,Reno,\r\n40,,True\r\n",
+        b"src,dst,duration:int,year:int\r\n10,20,7,2010\r\n20,30,12,\r\n",
+        "city:str vip:bool 10,'Los Angeles',true 20,'San Jose, CA',false 30,'Reno',- 40,'',true / duration:int year:int 0>1,7,2010 1>2,12,- ",
+    )?;
+    Ok(())
+}
+
+#[test]
+fn quotes_and_blank_lines(rt: HostRuntime) -> Result<(), Fail> {
+    loads_as(
+        &rt,
+        rt.alloc(),
+        b"\"id\",\"a,b:c:int\"\n\"1\",\"5\"\n\n2,-0",
+        b"src,dst,s:str\n1,2,\"say \"\"hi\"\"\"\n",
+        "a,b:c:int 1,5 2,0 / s:str 0>1,'say \"hi\"' ",
+    )?;
+    Ok(())
+}
+
+#[test]
+fn ends_of_the_numbers(rt: HostRuntime) -> Result<(), Fail> {
+    loads_as(
+        &rt,
+        rt.alloc(),
+        b"id,a:int\n1,9223372036854775807\n2,-9223372036854775807\n3,0000000000000000005\n",
+        b"src,dst\n",
+        "a:int 1,9223372036854775807 2,-9223372036854775807 3,5 / ",
+    )?;
+    loads_as(
+        &rt,
+        rt.alloc(),
+        b"id,a:int\n1,-9223372036854775808\n",
+        b"src,dst\n",
+        "Nodes record 2 column 2: BadCell",
+    )?;
+    loads_as(
+        &rt,
+        rt.alloc(),
+        b"id,a:int\n1,00000000000000000005\n",
+        b"src,dst\n",
+        "Nodes record 2 column 2: BadCell",
+    )?;
+    Ok(())
+}
+
+#[test]
+fn words_for_true_and_false(rt: HostRuntime) -> Result<(), Fail> {
+    loads_as(
+        &rt,
+        rt.alloc(),
+        b"id,b:bool\n1,true\n2,True\n3,TRUE\n4,false\n5,False\n6,FALSE\n7,\n",
+        b"src,dst\n",
+        "b:bool 1,true 2,true 3,true 4,false 5,false 6,false 7,- / ",
+    )?;
+    loads_as(
+        &rt,
+        rt.alloc(),
+        b"id,b:bool\n1,yes\n",
+        b"src,dst\n",
+        "Nodes record 2 column 2: BadCell",
+    )?;
+    Ok(())
+}
+
+#[test]
+fn one_byte_order_mark_is_skipped(rt: HostRuntime) -> Result<(), Fail> {
+    loads_as(
+        &rt,
+        rt.alloc(),
+        b"\xEF\xBB\xBFid\n1\n",
+        b"\xEF\xBB\xBFsrc,dst\n1,1\n",
+        "1 / 0>0 ",
+    )?;
+    loads_as(
+        &rt,
+        rt.alloc(),
+        b"\xEF\xBB\xBF\xEF\xBB\xBFid\n1\n",
+        b"src,dst\n",
+        "Nodes record 1 column 1: BadHeader",
+    )?;
+    loads_as(
+        &rt,
+        rt.alloc(),
+        b"\xEF\xBB\xBF",
+        b"src,dst\n",
+        "Nodes record 1 column 0: NoHeader",
+    )?;
+    Ok(())
+}
+
+#[test]
+fn no_header_and_nodes_first(rt: HostRuntime) -> Result<(), Fail> {
+    loads_as(
+        &rt,
+        rt.alloc(),
+        b"",
+        b"x\n",
+        "Nodes record 1 column 0: NoHeader",
+    )?;
+    loads_as(
+        &rt,
+        rt.alloc(),
+        NODES,
+        b"\n\n",
+        "Edges record 1 column 0: NoHeader",
+    )?;
+    Ok(())
+}
+
+#[test]
+fn headers_that_are_bad(rt: HostRuntime) -> Result<(), Fail> {
+    loads_as(
+        &rt,
+        rt.alloc(),
+        NODES,
+        b"src\n",
+        "Edges record 1 column 2: BadHeader",
+    )?;
+    loads_as(
+        &rt,
+        rt.alloc(),
+        NODES,
+        b"x\n",
+        "Edges record 1 column 1: BadHeader",
+    )?;
+    loads_as(
+        &rt,
+        rt.alloc(),
+        b"id,a:int,a:int\n",
+        EDGES,
+        "Nodes record 1 column 3: BadHeader",
+    )?;
+    loads_as(
+        &rt,
+        rt.alloc(),
+        NODES,
+        b"src,dst,y:float\n",
+        "Edges record 1 column 3: BadHeader",
+    )?;
+    loads_as(
+        &rt,
+        rt.alloc(),
+        NODES,
+        b"src,dst,a:int,dst:int\n",
+        "Edges record 1 column 4: BadHeader",
+    )?;
+    loads_as(
+        &rt,
+        rt.alloc(),
+        b"id,\xFF:int\n",
+        EDGES,
+        "Nodes record 1 column 2: NotUtf8",
+    )?;
+    Ok(())
+}
+
+#[test]
+fn seventeen_properties(rt: HostRuntime) -> Result<(), Fail> {
+    loads_as(
+        &rt,
+        rt.alloc(),
+        b"id,p1:int,p2:int,p3:int,p4:int,p5:int,p6:int,p7:int,p8:int,p9:int,p10:int,p11:int,p12:int,p13:int,p14:int,p15:int,p16:int,p17:int\n",
+        EDGES,
+        "Nodes record 1 column 18: TooManyColumns",
+    )?;
+    Ok(())
+}
+
+#[test]
+fn ids_that_are_bad_or_repeated(rt: HostRuntime) -> Result<(), Fail> {
+    loads_as(
+        &rt,
+        rt.alloc(),
+        b"id\n1\n01\n",
+        EDGES,
+        "Nodes record 3 column 1: RepeatedId",
+    )?;
+    loads_as(
+        &rt,
+        rt.alloc(),
+        b"id\n-1\n",
+        EDGES,
+        "Nodes record 2 column 1: BadId",
+    )?;
+    loads_as(
+        &rt,
+        rt.alloc(),
+        b"id\n\xFF\n",
+        EDGES,
+        "Nodes record 2 column 1: BadId",
+    )?;
+    loads_as(
+        &rt,
+        rt.alloc(),
+        b"id\n9223372036854775808\n",
+        EDGES,
+        "Nodes record 2 column 1: BadId",
+    )?;
+    Ok(())
+}
+
+#[test]
+fn cells_that_are_bad(rt: HostRuntime) -> Result<(), Fail> {
+    loads_as(
+        &rt,
+        rt.alloc(),
+        b"id,a:int\n1, 2\n",
+        EDGES,
+        "Nodes record 2 column 2: BadCell",
+    )?;
+    loads_as(
+        &rt,
+        rt.alloc(),
+        b"id,a:int\n1,+2\n",
+        EDGES,
+        "Nodes record 2 column 2: BadCell",
+    )?;
+    loads_as(
+        &rt,
+        rt.alloc(),
+        b"id,s:str\n1,\xFF\n",
+        EDGES,
+        "Nodes record 2 column 2: NotUtf8",
+    )?;
+    loads_as(
+        &rt,
+        rt.alloc(),
+        b"id,a:int\n1,\xFF\n",
+        EDGES,
+        "Nodes record 2 column 2: NotUtf8",
+    )?;
+    Ok(())
+}
+
+#[test]
+fn edges_that_are_bad(rt: HostRuntime) -> Result<(), Fail> {
+    loads_as(
+        &rt,
+        rt.alloc(),
+        NODES,
+        b"src,dst,y:int\n1,2,1\n1,9,1\n",
+        "Edges record 3 column 2: UnknownNode",
+    )?;
+    loads_as(
+        &rt,
+        rt.alloc(),
+        NODES,
+        b"src,dst,y:int\n1,2,1\n2,3\n",
+        "Edges record 3 column 0: WrongWidth",
+    )?;
+    loads_as(
+        &rt,
+        rt.alloc(),
+        NODES,
+        b"src,dst,y:int\n9,x,+\n",
+        "Edges record 2 column 1: UnknownNode",
+    )?;
     Ok(())
 }

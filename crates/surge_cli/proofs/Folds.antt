@@ -2,7 +2,7 @@
 use Rattle.std.proofs.Common.{◌≡◌, ◌∙◌, ℕ, Bool, true, false, List, [], ◌∷◌, ◌++◌, map, refl, sym, ap, take, Option, Some, None}
 use Rattle.std.specs.Prelude.{option_map}
 use Rattle.std.specs.List.{list_any}
-use Rattle.graph_loader.specs.GraphData.{GraphData}
+use Rattle.graph_model.specs.GraphData.{GraphData}
 use Rattle.gvdl_syntax.specs.declared.tree.Cmp.{Cmp}
 use Rattle.surge_cli.specs.declared.predicate.Place.{Place}
 use Rattle.surge_cli.specs.declared.predicate.Pred.{Pred}
@@ -10,7 +10,7 @@ use Rattle.surge_cli.specs.declared.predicate.Pred.TheVariants as pred
 use Rattle.surge_cli.specs.declared.predicate.Pred.TheOpen.{Pred-F}
 use Rattle.surge_cli.specs.declared.predicate.Pred.TheVariants.{rolls-Or, rolls-Compare}
 use Rattle.surge_cli.specs.declared.predicate.Pred.TheFolds.{fold-Pred, fold-roll-Pred}
-use Rattle.graph_loader.specs.declared.cell.Column.{Column}
+use Rattle.graph_model.specs.declared.cell.Column.{Column}
 use Rattle.gvdl_syntax.specs.declared.tree.Operand.{Operand}
 use Rattle.gvdl_syntax.specs.declared.tree.PredTree.{PredTree}
 use Rattle.gvdl_syntax.specs.declared.tree.PredTree.TheVariants as tree

@@ -1,3 +1,4 @@
+pub mod CommandLine
 pub mod Fronts
 pub mod Folds
 pub mod Growing

@@ -3,8 +3,8 @@ use Rattle.std.proofs.Common.{◌≡◌, ◌∙◌, ◌+◌, ◌≤◌, ◌<◌,
 use Rattle.std.proofs.lemmas.List.{take_more, take_all}
 use Rattle.std.proofs.lemmas.List.Elements.{filter-append, All-append}
 use Rattle.std.proofs.lemmas.List.FromFn.{get_or-map-range_with_len, length-map-range_with_len}
-use Rattle.graph_loader.specs.declared.number.EdgeNo.{EdgeNo}
-use Rattle.graph_loader.specs.GraphData.{GraphData}
+use Rattle.graph_model.specs.declared.number.EdgeNo.{EdgeNo}
+use Rattle.graph_model.specs.GraphData.{GraphData}
 use Rattle.surge_cli.specs.declared.predicate.Pred.{Pred}
 use Rattle.surge_cli.specs.Truth.{truth}
 use Rattle.surge_cli.specs.Output.{edge, edges_of, view_edges}

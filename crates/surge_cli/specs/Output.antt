@@ -1,8 +1,8 @@
 -- What a plan prints over a graph.
 use Rattle.std.specs.Prelude.{ℕ, ◌<◌, ◌≤◌, List, length, map, filter, flat_map}
 use Rattle.std.specs.List.{range_with_len}
-use Rattle.graph_loader.specs.declared.number.EdgeNo.{EdgeNo}
-use Rattle.graph_loader.specs.GraphData.{GraphData}
+use Rattle.graph_model.specs.declared.number.EdgeNo.{EdgeNo}
+use Rattle.graph_model.specs.GraphData.{GraphData}
 use Rattle.vertex_lang.specs.declared.lone.Lone.{Lone}
 use Rattle.vertex_lang.specs.Leaves.{IsChecked}
 use Rattle.vertex_lang.specs.Expressions.{Answer}

@@ -2,8 +2,10 @@
 use Rattle.std.specs.Prelude.{◌≡◌, ℕ, ℤ, ◌+◌, Bool, true, false, ◌&&◌, not, nat_le, if◌then◌else◌, List, [], ◌∷◌, ◌++◌, length, map, Option, Some, None, option_map, codes, bytes_eq}
 use Rattle.std.specs.List.{list_any}
 use Rattle.std.specs.Fmt.{signed_decimal}
-use Rattle.graph_loader.specs.GraphData.{GraphData}
-use Rattle.graph_loader.specs.declared.cell.Column.{Column}
+use Rattle.graph_model.specs.GraphData.{GraphData}
+use Rattle.graph_model.specs.declared.cell.Kind.{Kind}
+use Rattle.graph_model.specs.declared.cell.Kind.TheVariants as kind
+use Rattle.graph_model.specs.declared.cell.Column.{Column}
 use Rattle.gvdl_syntax.specs.declared.tree.Cmp.{Cmp}
 use Rattle.gvdl_syntax.specs.declared.tree.Operand.{Operand}
 use Rattle.gvdl_syntax.specs.declared.tree.Operand.TheVariants as operand
@@ -55,10 +57,16 @@ built_in = codes "hops" ∷ codes "dist" ∷ codes "wcc" ∷ codes "pagerank" �
 
 -- ---- predicates
 
--- the place of the column with this name, where the first of these has place n
+-- only a column of numbers is compared with a number
+abbrev pub number_column : ℕ → Kind → Option ℕ
+number_column n kind.Int = Some n
+number_column n kind.Str = None
+number_column n kind.Bool = None
+
+-- the place of the column of numbers with this name, where the first of these has place n
 abbrev pub column_from : ℕ → List Column → List ℕ → Option ℕ
 column_from n [] name = None
-column_from n (column ∷ columns) name = if bytes_eq column.name name then Some n else column_from (n + 1) columns name
+column_from n (column ∷ columns) name = if bytes_eq column.name name then number_column n column.kind else column_from (n + 1) columns name
 
 abbrev pub checked_place : List Column → Operand → Option Place
 checked_place columns (operand.Number z) = Some (place.Number z)

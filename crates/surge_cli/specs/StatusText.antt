@@ -1,5 +1,11 @@
 -- The numbers and the lines of the program's answers.
 use Rattle.std.specs.Prelude.{ℕ, List, [], ◌∷◌, ◌++◌, codes}
+use Rattle.std.specs.Fmt.{decimal}
+use Rattle.graph_loader.specs.declared.fault.DataFile.{DataFile}
+use Rattle.graph_loader.specs.declared.fault.DataFile.TheVariants as file
+use Rattle.graph_loader.specs.declared.fault.DataKind.{DataKind}
+use Rattle.graph_loader.specs.declared.fault.DataKind.TheVariants as wrong
+use Rattle.graph_loader.specs.declared.fault.DataFault.{DataFault}
 use Rattle.surge_cli.specs.declared.status.FileRole.{FileRole}
 use Rattle.surge_cli.specs.declared.status.FileRole.TheVariants as role
 use Rattle.surge_cli.specs.declared.status.Unbuilt.{Unbuilt}
@@ -9,7 +15,9 @@ use Rattle.surge_cli.specs.declared.status.Status.TheVariants as status
 
 abbrev pub status_number : Status → ℕ
 status_number status.Done = 0
+status_number status.Usage = 2
 status_number (status.Absent role) = 3
+status_number (status.Data fault) = 4
 status_number status.ReadFault = 6
 status_number status.WriteFault = 7
 status_number status.NoMemory = 8
@@ -23,18 +31,44 @@ role_text role.Edges = codes "edges"
 abbrev pub unbuilt_text : Unbuilt → List ℕ
 unbuilt_text unbuilt.Words = codes "words"
 unbuilt_text unbuilt.Script = codes "script"
-unbuilt_text unbuilt.Nodes = codes "nodes"
-unbuilt_text unbuilt.Edges = codes "edges"
 
-abbrev pub status_text : Status → List ℕ
-status_text status.Done = []
-status_text (status.Absent role) = codes "absent: " ++ role_text role
-status_text status.ReadFault = codes "read fault"
-status_text status.WriteFault = codes "write fault"
-status_text status.NoMemory = codes "out of memory"
-status_text (status.NotBuilt what) = codes "not built: " ++ unbuilt_text what
+abbrev pub file_text : DataFile → List ℕ
+file_text file.Nodes = codes "nodes"
+file_text file.Edges = codes "edges"
+
+abbrev pub kind_text : DataKind → List ℕ
+kind_text wrong.NoHeader = codes "NoHeader"
+kind_text wrong.BadHeader = codes "BadHeader"
+kind_text wrong.TooManyColumns = codes "TooManyColumns"
+kind_text wrong.WrongWidth = codes "WrongWidth"
+kind_text wrong.NotUtf8 = codes "NotUtf8"
+kind_text wrong.BadId = codes "BadId"
+kind_text wrong.RepeatedId = codes "RepeatedId"
+kind_text wrong.UnknownNode = codes "UnknownNode"
+kind_text wrong.BadCell = codes "BadCell"
+kind_text wrong.TooManyNodes = codes "TooManyNodes"
+kind_text wrong.TooManyEdges = codes "TooManyEdges"
+kind_text wrong.TooLarge = codes "TooLarge"
+
+-- the line that says this
+abbrev pub line_of : List ℕ → List ℕ
+line_of text = codes "surge: " ++ (text ++ 10 ∷ [])
+
+abbrev pub usage_line : List ℕ
+usage_line = line_of (codes "usage: surge (--script FILE | --sample N) [--mode run|check|summary] [--turns N]")
+
+-- the file, the record, the column and the kind of a fault
+abbrev pub fault_line : DataFault → List ℕ
+fault_line fault =
+    codes "surge: data: " ++ (file_text fault.file ++ (codes " record " ++ (decimal fault.row ++ (codes " column " ++ (decimal fault.column ++ (codes ": " ++ (kind_text fault.kind ++ 10 ∷ [])))))))
 
 -- one line, or nothing where the run is done
 abbrev pub status_line : Status → List ℕ
 status_line status.Done = []
-status_line s = codes "surge: " ++ (status_text s ++ 10 ∷ [])
+status_line status.Usage = usage_line
+status_line (status.Absent role) = line_of (codes "absent: " ++ role_text role)
+status_line (status.Data fault) = fault_line fault
+status_line status.ReadFault = line_of (codes "read fault")
+status_line status.WriteFault = line_of (codes "write fault")
+status_line status.NoMemory = line_of (codes "out of memory")
+status_line (status.NotBuilt what) = line_of (codes "not built: " ++ unbuilt_text what)

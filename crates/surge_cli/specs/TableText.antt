@@ -1,10 +1,10 @@
 -- The text of a view's table.
 use Rattle.std.specs.Prelude.{ℕ, List, [], ◌∷◌, ◌++◌, codes, flat_map, get_or}
 use Rattle.std.specs.Fmt.{decimal, signed_decimal}
-use Rattle.graph_loader.specs.GraphData.{GraphData, id_of, nodes_by_id}
-use Rattle.graph_loader.specs.declared.number.NodeNo.{NodeNo}
-use Rattle.graph_loader.specs.declared.value.Val.{Val}
-use Rattle.graph_loader.specs.declared.value.Val.TheVariants.{Nil, Num}
+use Rattle.graph_model.specs.GraphData.{GraphData, id_of, nodes_by_id}
+use Rattle.graph_model.specs.declared.number.NodeNo.{NodeNo}
+use Rattle.graph_model.specs.declared.value.Val.{Val}
+use Rattle.graph_model.specs.declared.value.Val.TheVariants.{Nil, Num}
 use Rattle.vertex_lang.specs.declared.lone.Outcome.{Outcome}
 use Rattle.vertex_lang.specs.declared.lone.Outcome.TheVariants as outcome
 use Rattle.vertex_lang.specs.declared.lone.Lone.{Lone}

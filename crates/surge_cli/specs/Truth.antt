@@ -2,9 +2,7 @@
 use Rattle.std.specs.Prelude.{◌≡◌, ℕ, ℤ, int_lt, int_le, nat_lt, Bool, true, false, not, if◌then◌else◌, List, length}
 use Rattle.std.specs.Ordering.{int_eq}
 use Rattle.std.specs.List.{list_any}
-use Rattle.graph_loader.specs.GraphData.{GraphData, edge_cell_of}
-use Rattle.graph_loader.specs.declared.cell.CellRef.{CellRef}
-use Rattle.graph_loader.specs.declared.cell.CellRef.TheVariants as cell
+use Rattle.graph_model.specs.GraphData.{GraphData, Cell, edge_cell_of}
 use Rattle.gvdl_syntax.specs.declared.tree.Cmp.{Cmp}
 use Rattle.gvdl_syntax.specs.declared.tree.Cmp.TheVariants as cmp
 use Rattle.surge_cli.specs.declared.predicate.Place.{Place}
@@ -21,16 +19,15 @@ numbers_compare cmp.Le a b = int_le a b
 numbers_compare cmp.Gt a b = int_lt b a
 numbers_compare cmp.Ge a b = int_le b a
 
--- with an absent cell on either side a comparison is false
-abbrev pub cells_compare : Cmp → CellRef → CellRef → Bool
-cells_compare sign cell.Absent b = false
-cells_compare sign (cell.Int a) cell.Absent = false
-cells_compare sign (cell.Int a) (cell.Int b) = numbers_compare sign a b
+-- a comparison is of two numbers; with an absent cell on either side it is false
+abbrev pub cells_compare : Cmp → Cell → Cell → Bool
+cells_compare sign (Cell.int a) (Cell.int b) = numbers_compare sign a b
+cells_compare sign _ _ = false
 
 -- the cell of a place at an edge; a column that the graph lacks is absent
-abbrev pub place_cell : GraphData → ℕ → Place → CellRef
-place_cell g e (place.Number z) = cell.Int z
-place_cell g e (place.Edge column) = if nat_lt column (length g.edge_columns) then edge_cell_of g e column else cell.Absent
+abbrev pub place_cell : GraphData → ℕ → Place → Cell
+place_cell g e (place.Number z) = Cell.int z
+place_cell g e (place.Edge column) = if nat_lt column (length g.edge_columns) then edge_cell_of g e column else Cell.absent
 
 abbrev pub truth_of : GraphData → ℕ → Pred-F Bool → Bool
 truth_of g e (Pred-F.Or members) = list_any (λ holds. holds) members

@@ -1,8 +1,98 @@
--- The words of the command line.
-use Rattle.std.specs.Prelude.{◌≡◌, ◌<◌, ℕ, List, [], ◌∷◌, length, codes}
+-- What the words of the command line ask for.
+use Rattle.std.specs.Prelude.{ℕ, ◌^◌, Bool, true, false, ◌&&◌, nat_le, nat_lt, if◌then◌else◌, List, [], ◌∷◌, length, codes, Option, Some, None, option_map, option_and_then}
+use Rattle.std.specs.Char.{is_ascii_digit}
+use Rattle.std.specs.List.{list_all}
+use Rattle.std.specs.Str.{bytes_eq}
+use Rattle.std.specs.Str.Parse.{digits_value}
+use Rattle.clap.specs.Words.{App, Rule, Row, new_app, new_rule, with_rule, first_of, matches_of}
+use Rattle.clap.specs.Faults.{fault_of}
+use Rattle.clap.specs.Kinds.{Kinds}
+use Rattle.surge_cli.specs.declared.words.Source.{Source}
+use Rattle.surge_cli.specs.declared.words.Source.TheVariants as source
+use Rattle.surge_cli.specs.declared.words.Mode.{Mode}
+use Rattle.surge_cli.specs.declared.words.Mode.TheVariants as mode
+use Rattle.surge_cli.specs.declared.words.Request.{Request}
 
--- the program's name, which isn't looked at, `--script`, and the name of a file
-pub record NameScript (words : List (List ℕ)) (name : List ℕ) : Type 0 where
-  pub program : List ℕ
-  pub three : words ≡ program ∷ (codes "--script" ∷ (name ∷ []))
-  pub named : 0 < length name
+-- ---- the command, as `clap` sees it
+
+-- `--name TEXT` or `--name=TEXT`
+abbrev pub option_named : List ℕ → Rule
+option_named name = record (new_rule name) { long = Some name }
+
+-- without flags for help and for the version
+abbrev pub bare : App
+bare = let plain = new_app (codes "surge") in record plain { top = record plain.top { disable_help_flag = true; disable_version_flag = true } }
+
+abbrev pub command : App
+command = with_rule (with_rule (with_rule (with_rule bare (option_named (codes "script"))) (option_named (codes "sample"))) (option_named (codes "mode"))) (option_named (codes "turns"))
+
+abbrev pub where_none : Kinds → List Row → Option (List Row)
+where_none [] rows = Some rows
+where_none (kind ∷ kinds) rows = None
+
+-- the options that were given, where the command takes the words. The first word is the program's name, which isn't
+-- looked at
+abbrev pub matched : List (List ℕ) → Option (List Row)
+matched words = where_none (fault_of command words) (matches_of command words)
+
+-- ---- what each option says
+
+-- 1 to 20 decimal digits, of value up to 2^64 - 1
+abbrev pub is_number : List ℕ → Bool
+is_number text = nat_le 1 (length text) && nat_le (length text) 20 && list_all is_ascii_digit text && nat_lt (digits_value 10 text) (2 ^ 64)
+
+abbrev pub number_of : List ℕ → Option ℕ
+number_of text = if is_number text then Some (digits_value 10 text) else None
+
+-- the name of a file isn't empty
+abbrev pub file_of : List ℕ → Option Source
+file_of name = if nat_le 1 (length name) then Some (source.Script name) else None
+
+-- exactly one of `--script` and `--sample`
+abbrev pub source_of : (script sample : Option (List ℕ)) → Option Source
+source_of (Some name) None = file_of name
+source_of None (Some text) = option_map (λ n. source.Sample n) (number_of text)
+source_of None None = None
+source_of (Some name) (Some text) = None
+
+abbrev pub mode_named : List ℕ → Option Mode
+mode_named text =
+    if bytes_eq text (codes "run") then Some mode.Run
+    else (if bytes_eq text (codes "check") then Some mode.Check
+    else (if bytes_eq text (codes "summary") then Some mode.Summary else None))
+
+-- without `--mode` the mode is `run`
+abbrev pub mode_of : Option (List ℕ) → Option Mode
+mode_of None = Some mode.Run
+mode_of (Some text) = mode_named text
+
+abbrev pub turns_of : Option (List ℕ) → Option (Option ℕ)
+turns_of None = Some None
+turns_of (Some text) = option_map (λ n. Some n) (number_of text)
+
+-- ---- the whole
+
+abbrev pub joined : Option Source → Option Mode → Option (Option ℕ) → Option Request
+joined (Some source) (Some mode) (Some turns) = Some (record { source = source; mode = mode; turns = turns })
+joined _ _ _ = None
+
+abbrev pub request_from : List Row → Option Request
+request_from rows =
+    joined (source_of (first_of (codes "script") rows) (first_of (codes "sample") rows)) (mode_of (first_of (codes "mode") rows)) (turns_of (first_of (codes "turns") rows))
+
+-- what the words ask for, where they are of the form
+abbrev pub request_of : List (List ℕ) → Option Request
+request_of words = option_and_then request_from (matched words)
+
+-- the script that a request runs, where requests of its kind are built: so far without the sample, other modes and turns
+abbrev pub script_run : Source → Mode → Option ℕ → Option (List ℕ)
+script_run (source.Script name) mode.Run None = Some name
+script_run _ _ _ = None
+
+abbrev pub script_of : Request → Option (List ℕ)
+script_of request = script_run request.source request.mode request.turns
+
+-- the script that the words ask for: none where they are not of the form, and none inside where they ask for what is not
+-- built yet
+unfoldable pub script_asked : List (List ℕ) → Option (Option (List ℕ))
+script_asked words = option_map script_of (request_of words)

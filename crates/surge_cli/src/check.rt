@@ -4,12 +4,12 @@ ghost use Rattle.std.specs.Prelude.{◌≡◌, ◌&&◌, not, nat_le, map, lengt
 ghost use Rattle.std.specs.List.{list_any};
 ghost use Rattle.surge_cli.specs.Output.{IsPlan};
 ghost use Rattle.surge_cli.specs.HopsPlan.{IsHopsPlan};
-ghost use Rattle.surge_cli.specs.Planning.{is_among, have_distinct_names, built_in, column_from, checked_place, checked_comparison, checked, all_some, planned_view, are_views, source_of, are_rounds, call_text, are_names, planned_run, plan};
+ghost use Rattle.surge_cli.specs.Planning.{is_among, have_distinct_names, built_in, number_column, column_from, checked_place, checked_comparison, checked, all_some, planned_view, are_views, source_of, are_rounds, call_text, are_names, planned_run, plan};
 
 use crate::hops::hops;
 use crate::plan::{Plan, ViewPlan};
 use crate::predicate::{Place, Pred};
-use graph_loader::{Column, Graph};
+use graph_model::{Column, Graph, Kind};
 use gvdl_syntax::{Arg, Call, Cmp, Item, ItemBody, Operand, PredTree, Script, Statement};
 use std::alloc::Global;
 use surge_outside::{List, NoMemory, Text};
@@ -67,7 +67,18 @@ fn check_views(items: &[Item]) -> bool
     items.len() <= VIEW_LIMIT && have_distinct_names(items)
 }
 
-// The place of the column with the name.
+// Only a column of numbers is compared with a number.
+fn number_column(place: usize, kind: Kind) -> Option<usize>
+    ensures { result ≡ number_column place kind }
+{
+    match kind {
+        Kind::Int => Some(place),
+        Kind::Str => None,
+        Kind::Bool => None,
+    }
+}
+
+// The place of the column of numbers with the name.
 fn column_of(columns: &[Column], name: &str) -> Option<usize>
     ensures { result ≡ column_from 0 columns.now name.now }
 {
@@ -75,7 +86,7 @@ fn column_of(columns: &[Column], name: &str) -> Option<usize>
     let mut left = columns;
     'columns: while let [column, rest @ ..] = left {
         if column.name.as_str() == name {
-            return Some(place);
+            return number_column(place, column.kind);
         }
         place += 1;
         left = rest;

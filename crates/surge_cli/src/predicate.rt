@@ -2,9 +2,10 @@
 
 ghost use Rattle.std.specs.Prelude.{◌≡◌, ◌<◌, length};
 ghost use Rattle.std.specs.List.{list_any};
+ghost use Rattle.graph_model.specs.GraphData.{cell_of};
 ghost use Rattle.surge_cli.specs.Truth.{truth, place_cell, cells_compare, numbers_compare};
 
-use graph_loader::{CellRef, EdgeNo, Graph};
+use graph_model::{CellRef, EdgeNo, Graph};
 use gvdl_syntax::Cmp;
 use surge_outside::List;
 
@@ -37,8 +38,8 @@ fn compare(first: i64, sign: Cmp, second: i64) -> bool
     }
 }
 
-fn compare_cells(first: CellRef, sign: Cmp, second: CellRef) -> bool
-    ensures { result ≡ cells_compare sign first second }
+fn compare_cells(first: CellRef<'_>, sign: Cmp, second: CellRef<'_>) -> bool
+    ensures { result ≡ cells_compare sign (cell_of first.entry) (cell_of second.entry) }
 {
     match (first, second) {
         (CellRef::Int(first), CellRef::Int(second)) => compare(first, sign, second),
@@ -46,9 +47,9 @@ fn compare_cells(first: CellRef, sign: Cmp, second: CellRef) -> bool
     }
 }
 
-fn cell(place: Place, graph: &Graph, edge: EdgeNo) -> CellRef
+fn cell(place: Place, graph: &Graph, edge: EdgeNo) -> CellRef<'_>
     requires { edge.0 < length graph.now.ends }
-    ensures { result ≡ place_cell graph.now edge.0 place }
+    ensures { cell_of result ≡ place_cell graph.now edge.0 place }
 {
     match place {
         Place::Number(number) => CellRef::Int(number),

@@ -9,7 +9,7 @@ ghost use Rattle.vertex_lang.specs.Lone.{HasAllValues};
 use crate::plan::{Plan, ViewPlan};
 use crate::predicate::{Pred, holds};
 use crate::table::{head_text, table_text};
-use graph_loader::{EdgeNo, Graph};
+use graph_model::{EdgeNo, Graph};
 use std::alloc::Global;
 use surge_outside::{NoMemory, Sink, Trouble, put_all};
 use vertex_lang::{Lone, Updater, arcs_of, lone_run};

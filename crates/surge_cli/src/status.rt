@@ -1,7 +1,13 @@
 //! What the program answers.
 
-ghost use Rattle.std.specs.Prelude.{◌≡◌};
-ghost use Rattle.surge_cli.specs.StatusText.{status_number, status_line};
+ghost use Rattle.std.specs.Prelude.{◌≡◌, IfOk, string_bytes};
+ghost use Rattle.std.specs.Cow.{cow_str_bytes};
+ghost use Rattle.surge_cli.specs.StatusText.{status_number, status_line, file_text, kind_text, fault_line};
+
+use graph_loader::{DataFault, DataFile, DataKind};
+use std::alloc::Global;
+use std::borrow::CowStr;
+use surge_outside::NoMemory;
 
 /// What a file is for.
 #[derive(Clone, Copy, Debug, PartialEq, Eq)]
@@ -14,14 +20,10 @@ pub enum FileRole {
 /// What is of a form that is not built yet.
 #[derive(Clone, Copy, Debug, PartialEq, Eq)]
 pub enum Unbuilt {
-    /// The words of the command line.
+    /// The words of the command line ask for a sample, for turns, or for a mode other than `run`.
     Words,
     /// The script: too large, of another form, or with a fault against its graph.
     Script,
-    /// The nodes file: too large, or of another form.
-    Nodes,
-    /// The edges file: too large, or of another form.
-    Edges,
 }
 
 /// How a run of the program ended.
@@ -29,8 +31,12 @@ pub enum Unbuilt {
 pub enum Status {
     /// Every table was written.
     Done,
+    /// The words of the command line are not of the form.
+    Usage,
     /// There is no such file.
     Absent(FileRole),
+    /// The data files have this first fault. A file of more than 2^28 bytes is too large, at record 0 and column 0.
+    Data(DataFault),
     /// A file could not be read.
     ReadFault,
     /// The output could not be written.
@@ -41,6 +47,51 @@ pub enum Status {
     NotBuilt(Unbuilt),
 }
 
+fn file_name(file: DataFile) -> &'static str
+    ensures { result.now ≡ file_text file }
+{
+    match file {
+        DataFile::Nodes => "nodes",
+        DataFile::Edges => "edges",
+    }
+}
+
+fn kind_name(kind: DataKind) -> &'static str
+    ensures { result.now ≡ kind_text kind }
+{
+    match kind {
+        DataKind::NoHeader => "NoHeader",
+        DataKind::BadHeader => "BadHeader",
+        DataKind::TooManyColumns => "TooManyColumns",
+        DataKind::WrongWidth => "WrongWidth",
+        DataKind::NotUtf8 => "NotUtf8",
+        DataKind::BadId => "BadId",
+        DataKind::RepeatedId => "RepeatedId",
+        DataKind::UnknownNode => "UnknownNode",
+        DataKind::BadCell => "BadCell",
+        DataKind::TooManyNodes => "TooManyNodes",
+        DataKind::TooManyEdges => "TooManyEdges",
+        DataKind::TooLarge => "TooLarge",
+    }
+}
+
+// The line of a fault in a data file.
+fn fault_line(alloc: Global, fault: DataFault) -> Result<String, NoMemory>
+    ensures { IfOk result (λ line. string_bytes line ≡ fault_line fault) }
+{
+    let file = file_name(fault.file);
+    let kind = kind_name(fault.kind);
+    let row = fault.row;
+    let column = fault.column;
+    Ok(format!(in alloc; "surge: data: {file} record {row} column {column}: {kind}\n")?)
+}
+
+fn fixed(line: &'static str) -> Result<CowStr<'static, Global>, NoMemory>
+    ensures { IfOk result (λ text. cow_str_bytes text ≡ line.entry.now) }
+{
+    Ok(CowStr::Borrowed(line))
+}
+
 impl Status {
     /// The exit status of the process: 0 only where it is done.
     pub fn number(&self) -> u8
@@ -48,7 +99,9 @@ impl Status {
     {
         match self {
             Status::Done => 0,
+            Status::Usage => 2,
             Status::Absent(_) => 3,
+            Status::Data(_) => 4,
             Status::ReadFault => 6,
             Status::WriteFault => 7,
             Status::NoMemory => 8,
@@ -56,22 +109,25 @@ impl Status {
         }
     }
 
-    /// The line that says so on standard error, with its line feed. It is empty where the run is done.
-    pub fn line(&self) -> &'static str
-        ensures { result.now ≡ status_line self.now }
+    /// The line that says so on standard error, with its line feed. It is empty where the run is done. Only the line of a
+    /// fault in the data takes memory; the one error is want of it.
+    pub fn line(&self, alloc: Global) -> Result<CowStr<'static, Global>, NoMemory>
+        ensures { IfOk result (λ line. cow_str_bytes line ≡ status_line self.now) }
     {
         match self {
-            Status::Done => "",
-            Status::Absent(FileRole::Script) => "surge: absent: script\n",
-            Status::Absent(FileRole::Nodes) => "surge: absent: nodes\n",
-            Status::Absent(FileRole::Edges) => "surge: absent: edges\n",
-            Status::ReadFault => "surge: read fault\n",
-            Status::WriteFault => "surge: write fault\n",
-            Status::NoMemory => "surge: out of memory\n",
-            Status::NotBuilt(Unbuilt::Words) => "surge: not built: words\n",
-            Status::NotBuilt(Unbuilt::Script) => "surge: not built: script\n",
-            Status::NotBuilt(Unbuilt::Nodes) => "surge: not built: nodes\n",
-            Status::NotBuilt(Unbuilt::Edges) => "surge: not built: edges\n",
+            Status::Done => fixed(""),
+            Status::Usage => fixed(
+                "surge: usage: surge (--script FILE | --sample N) [--mode run|check|summary] [--turns N]\n",
+            ),
+            Status::Absent(FileRole::Script) => fixed("surge: absent: script\n"),
+            Status::Absent(FileRole::Nodes) => fixed("surge: absent: nodes\n"),
+            Status::Absent(FileRole::Edges) => fixed("surge: absent: edges\n"),
+            Status::Data(fault) => Ok(CowStr::Owned(fault_line(alloc, *fault)?)),
+            Status::ReadFault => fixed("surge: read fault\n"),
+            Status::WriteFault => fixed("surge: write fault\n"),
+            Status::NoMemory => fixed("surge: out of memory\n"),
+            Status::NotBuilt(Unbuilt::Words) => fixed("surge: not built: words\n"),
+            Status::NotBuilt(Unbuilt::Script) => fixed("surge: not built: script\n"),
         }
     }
 }

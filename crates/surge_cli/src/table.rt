@@ -1,11 +1,11 @@
 //! The text of tables.
 
 ghost use Rattle.std.specs.Prelude.{◌≡◌, ◌++◌, ◌<◌, ◌≤◌, length, string_bytes, OnOk, IfOk, codes, flat_map};
-ghost use Rattle.graph_loader.specs.GraphData.{nodes_by_id};
+ghost use Rattle.graph_model.specs.GraphData.{nodes_by_id};
 ghost use Rattle.vertex_lang.specs.Lone.{HasAllValues, HasAllValuesAt};
 ghost use Rattle.surge_cli.specs.TableText.{value_line, outcome_text, node_line, rows, head_text, table_text};
 
-use graph_loader::{Graph, Val};
+use graph_model::{Graph, Val};
 use std::alloc::Global;
 use std::fmt::Write;
 use surge_outside::NoMemory;

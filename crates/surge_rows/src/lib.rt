@@ -12,12 +12,12 @@ use std::sync::ledger::{Blank, Ledger};
 use surge_cli::{Status, surge};
 use surge_outside::{List, MemoryFiles, MemorySink, Steps, Text};
 
-/// The names and bytes of files in memory.
+/// What the files in memory hold, where they are there.
 #[derive(Clone, Copy)]
-pub struct Names<'a> {
-    pub script: &'a str,
-    pub nodes: &'a str,
-    pub edges: &'a str,
+pub struct Contents<'a> {
+    pub script: Option<&'a str>,
+    pub nodes: Option<&'a [u8]>,
+    pub edges: Option<&'a [u8]>,
 }
 
 /// What a run left: its answer, and what was written.
@@ -32,8 +32,22 @@ fn text(alloc: Global, bytes: &str) -> Result<Text, AllocError> {
     Ok(Text::from_string(String::from_str(alloc, bytes)?))
 }
 
-fn bytes(alloc: Global, text: &str) -> Result<List<u8>, AllocError> {
-    Ok(List::from_vec(Vec::from_slice(alloc, text.as_bytes())?))
+type Held = Vec<(Text, List<u8>)>;
+
+// Adds the file of this name, where it is there.
+fn hold(
+    alloc: Global,
+    held: &mut Held,
+    name: &str,
+    bytes: Option<&[u8]>,
+) -> Result<(), AllocError> {
+    if let Some(bytes) = bytes {
+        held.push((
+            text(alloc, name)?,
+            List::from_vec(Vec::from_slice(alloc, bytes)?),
+        ))?;
+    }
+    Ok(())
 }
 
 /// The calls that fail, by their numbers from 1.
@@ -45,28 +59,24 @@ pub fn failing(alloc: Global, call: Option<u64>) -> Result<List<u64>, AllocError
     Ok(List::from_vec(calls))
 }
 
-/// The script `s` and the data files `n4.csv` and `e1.csv`, without those that are empty.
-pub fn held(alloc: Global, files: &Names<'_>) -> Result<List<(Text, List<u8>)>, AllocError> {
+/// The script `s` and the data files `n4.csv` and `e1.csv`, those that are there.
+pub fn held(alloc: Global, files: &Contents<'_>) -> Result<List<(Text, List<u8>)>, AllocError> {
     let mut held = Vec::new(alloc);
-    if !files.script.is_empty() {
-        held.push((text(alloc, "s")?, bytes(alloc, files.script)?))?;
+    if let Some(script) = files.script {
+        hold(alloc, &mut held, "s", Some(script.as_bytes()))?;
     }
-    if !files.nodes.is_empty() {
-        held.push((text(alloc, "n4.csv")?, bytes(alloc, files.nodes)?))?;
-    }
-    if !files.edges.is_empty() {
-        held.push((text(alloc, "e1.csv")?, bytes(alloc, files.edges)?))?;
-    }
+    hold(alloc, &mut held, "n4.csv", files.nodes)?;
+    hold(alloc, &mut held, "e1.csv", files.edges)?;
     Ok(List::from_vec(held))
 }
 
-/// The words of the command line that name the script `s`.
-pub fn words(alloc: Global) -> Result<Vec<String>, AllocError> {
-    let mut words = Vec::new(alloc);
-    words.push(String::from_str(alloc, "surge")?)?;
-    words.push(String::from_str(alloc, "--script")?)?;
-    words.push(String::from_str(alloc, "s")?)?;
-    Ok(words)
+/// Copies of the words of a command line.
+pub fn copied(alloc: Global, words: &[&str]) -> Result<Vec<String>, AllocError> {
+    let mut copies = Vec::new(alloc);
+    for word in words {
+        copies.push(String::from_str(alloc, word)?)?;
+    }
+    Ok(copies)
 }
 
 /// Runs the program over these ends.
@@ -95,11 +105,12 @@ pub struct Ends {
     pub report: Option<u64>,
 }
 
-/// Runs the program over files and sinks in memory.
+/// Runs the program with these words over files and sinks in memory.
 pub fn run_memory<L: Ledger>(
     alloc: Global,
     blank: Blank,
-    files: &Names<'_>,
+    words: &[&str],
+    files: &Contents<'_>,
     ends: Ends,
 ) -> Result<Left, AllocError>
     requires piece { 1 ≤ ends.piece }
@@ -110,7 +121,7 @@ pub fn run_memory<L: Ledger>(
     let mut files = MemoryFiles::new(held(alloc, files)?, ends.piece, failing(alloc, ends.fetch)?);
     let mut out = MemorySink::new(alloc, ends.piece, failing(alloc, ends.write)?);
     let mut err = MemorySink::new(alloc, ends.piece, failing(alloc, ends.report)?);
-    let words = words(alloc)?;
+    let words = copied(alloc, words)?;
     let status = run_over::<L>(
         alloc,
         blank,

@@ -2,8 +2,8 @@
 use Rattle.std.proofs.Common.{◌≡◌, ◌∙◌, ◌<◌, ℕ, zero, suc, ℤ, Bool, true, false, cond, fold, replicate, refl, ap, arith}
 use Rattle.std.specs.Prelude.{int_lt}
 use Rattle.std.specs.Int.{int_min}
-use Rattle.graph_loader.specs.declared.value.Val.{Val}
-use Rattle.graph_loader.specs.declared.value.Val.TheVariants.{Nil, Num}
+use Rattle.graph_model.specs.declared.value.Val.{Val}
+use Rattle.graph_model.specs.declared.value.Val.TheVariants.{Nil, Num}
 use Rattle.vertex_lang.specs.Values.{lesser}
 
 cond_same : {A : Type 0} (b : Bool) (x : A) → cond b x x ≡ x

@@ -1,9 +1,9 @@
 -- The arcs of a view, and what they bring.
 use Rattle.std.specs.Prelude.{ℕ, ◌<◌, ◌==◌, Bool, true, false, List, [], ◌∷◌, length, map, filter, fold, flat_map, count_by, replicate}
-use Rattle.graph_loader.specs.declared.number.EdgeNo.{EdgeNo}
-use Rattle.graph_loader.specs.declared.value.Val.{Val}
-use Rattle.graph_loader.specs.declared.value.Val.TheVariants.{Nil, Num}
-use Rattle.graph_loader.specs.GraphData.{GraphData, ends_of}
+use Rattle.graph_model.specs.declared.number.EdgeNo.{EdgeNo}
+use Rattle.graph_model.specs.declared.value.Val.{Val}
+use Rattle.graph_model.specs.declared.value.Val.TheVariants.{Nil, Num}
+use Rattle.graph_model.specs.GraphData.{GraphData, ends_of}
 use Rattle.vertex_lang.specs.declared.arc.Arc.{Arc}
 use Rattle.vertex_lang.specs.declared.program.Along.{Along}
 use Rattle.vertex_lang.specs.declared.program.Along.TheVariants as along

@@ -1,9 +1,9 @@
 -- The value of an expression, by cases on its tree.
 use Rattle.std.specs.Prelude.{ℕ, pos, Bool, if◌then◌else◌, fold}
 use Rattle.std.specs.List.{list_all}
-use Rattle.graph_loader.specs.declared.value.Val.{Val}
-use Rattle.graph_loader.specs.declared.value.Val.TheVariants.{Nil, Num}
-use Rattle.graph_loader.specs.GraphData.{GraphData, id_of}
+use Rattle.graph_model.specs.declared.value.Val.{Val}
+use Rattle.graph_model.specs.declared.value.Val.TheVariants.{Nil, Num}
+use Rattle.graph_model.specs.GraphData.{GraphData, id_of}
 use Rattle.vertex_lang.specs.declared.program.Expr.{Expr}
 use Rattle.vertex_lang.specs.declared.program.Check.{Check}
 use Rattle.vertex_lang.specs.declared.program.Check.TheOpen.{Expr-F, Check-F}

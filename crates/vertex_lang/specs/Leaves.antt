@@ -1,7 +1,7 @@
 -- The numbers and words that an expression holds, and which of them each part of a program may hold.
 use Rattle.std.specs.Prelude.{ℤ, Bool, true, false, IsTrue, List, [], ◌∷◌, ◌++◌, flat_map, Contains}
 use Rattle.std.specs.List.{list_all}
-use Rattle.graph_loader.specs.GraphData.{GraphData}
+use Rattle.graph_model.specs.GraphData.{GraphData}
 use Rattle.vertex_lang.specs.declared.program.Expr.{Expr}
 use Rattle.vertex_lang.specs.declared.program.Check.{Check}
 use Rattle.vertex_lang.specs.declared.program.Check.TheOpen.{Expr-F, Check-F}

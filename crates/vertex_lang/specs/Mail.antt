@@ -1,8 +1,8 @@
 -- What nodes have got so far, as the code keeps it while it goes over the arcs.
 use Rattle.std.specs.Prelude.{◌≡◌, ◌≢◌, ℕ, ◌+◌, ◌<◌, Bool, MatchBool, List, length, get_or}
-use Rattle.graph_loader.specs.declared.value.Val.{Val}
-use Rattle.graph_loader.specs.declared.value.Val.TheVariants.{Nil, Num}
-use Rattle.graph_loader.specs.GraphData.{GraphData, id_of}
+use Rattle.graph_model.specs.declared.value.Val.{Val}
+use Rattle.graph_model.specs.declared.value.Val.TheVariants.{Nil, Num}
+use Rattle.graph_model.specs.GraphData.{GraphData, id_of}
 use Rattle.vertex_lang.specs.declared.arc.Arc.{Arc}
 use Rattle.vertex_lang.specs.declared.program.Program.{Program}
 use Rattle.vertex_lang.specs.declared.program.Gather.{Gather}

@@ -1,9 +1,9 @@
 -- The plain run of a program: synchronous rounds over all nodes. Values stand by node number.
 use Rattle.std.specs.Prelude.{ℕ, zero, suc, List, map, length, get_or}
 use Rattle.std.specs.List.{range_with_len}
-use Rattle.graph_loader.specs.declared.value.Val.{Val}
-use Rattle.graph_loader.specs.declared.value.Val.TheVariants.{Nil}
-use Rattle.graph_loader.specs.GraphData.{GraphData, id_of}
+use Rattle.graph_model.specs.declared.value.Val.{Val}
+use Rattle.graph_model.specs.declared.value.Val.TheVariants.{Nil}
+use Rattle.graph_model.specs.GraphData.{GraphData, id_of}
 use Rattle.vertex_lang.specs.declared.arc.Arc.{Arc}
 use Rattle.vertex_lang.specs.declared.program.Program.{Program}
 use Rattle.vertex_lang.specs.Expressions.{Answer, start_of, sent_by}

@@ -3,9 +3,9 @@ use Rattle.std.specs.Prelude.{◌≡◌, Bool, true, false, refl}
 use Rattle.std.specs.declared.cmp.Ordering.{Ordering}
 use Rattle.std.specs.declared.cmp.Ordering.TheVariants.{Less, Equal, Greater}
 use Rattle.std.specs.Ordering.{ordering_then, nat_cmp, bool_cmp}
-use Rattle.graph_loader.specs.declared.number.NodeNo.{NodeNo}
-use Rattle.graph_loader.specs.declared.number.EdgeNo.{EdgeNo}
-use Rattle.graph_loader.specs.Same.{node_same, edge_same}
+use Rattle.graph_model.specs.declared.number.NodeNo.{NodeNo}
+use Rattle.graph_model.specs.declared.number.EdgeNo.{EdgeNo}
+use Rattle.graph_model.specs.Same.{node_same, edge_same}
 use Rattle.vertex_lang.specs.declared.arc.Arc.{Arc}
 
 abbrev pub arc_cmp : Arc → Arc → Ordering

@@ -2,8 +2,8 @@
 use Rattle.std.proofs.Common.{◌≡◌, ◌∙◌, ◌++◌, ◌∷◌, [], ℤ, pos, Bool, cond, List, fold, flat_map, ap, sym}
 use Rattle.std.specs.List.{list_all}
 use Rattle.std.proofs.lemmas.List.Folds.{list_all-map, fold-map, flat_map-map}
-use Rattle.graph_loader.specs.declared.value.Val.{Val}
-use Rattle.graph_loader.specs.declared.value.Val.TheVariants.{Nil, Num}
+use Rattle.graph_model.specs.declared.value.Val.{Val}
+use Rattle.graph_model.specs.declared.value.Val.TheVariants.{Nil, Num}
 use Rattle.vertex_lang.specs.declared.program.Expr.{Expr}
 use Rattle.vertex_lang.specs.declared.program.Expr.TheVariants as expr
 use Rattle.vertex_lang.specs.declared.program.Expr.TheVariants.{rolls-If, rolls-Sum, rolls-Number, rolls-Nil, rolls-Id, rolls-Start, rolls-Value, rolls-Gathered, rolls-Least}

@@ -4,7 +4,7 @@ ghost use Rattle.std.specs.Prelude.{◌≡◌, ◌<◌, ◌≤◌, ◌*◌, leng
 ghost use Rattle.vertex_lang.specs.Arcs.{arcs_between, forward, IsArc};
 
 use crate::program::Along;
-use graph_loader::{EdgeNo, Graph, NodeNo};
+use graph_model::{EdgeNo, Graph, NodeNo};
 use std::alloc::Global;
 use surge_outside::{List, NoMemory, Record};
 

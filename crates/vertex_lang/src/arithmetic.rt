@@ -4,7 +4,7 @@ ghost use Rattle.std.specs.Prelude.{◌≡◌, ◌<ℤ◌, ◌≤ℤ◌, pos, ne
 ghost use Rattle.vertex_lang.specs.Values.{clamped, added, lesser, in_range, compares, number_compares, exact_sum};
 
 use crate::program::Cmp;
-use graph_loader::Val;
+use graph_model::Val;
 
 /// The greatest number that a value can be, 2^63 - 1. The least one is its negation.
 const GREATEST: i64 = i64::MAX;

@@ -8,7 +8,7 @@ ghost use Rattle.vertex_lang.specs.Values.{added};
 use crate::arithmetic::{add, clamp, compare, lesser_of};
 use crate::program::{Check, Expr};
 use crate::words::Words;
-use graph_loader::Val;
+use graph_model::Val;
 
 /// The value of an expression where its words stand for these. It takes no memory.
 #[cycle(evaluation)]

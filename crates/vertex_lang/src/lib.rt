@@ -1,6 +1,6 @@
 //! Vertex programs: what a node computes from its own value and from the messages that its arcs bring.
 //!
-//! It stands on `surge_outside` and `graph_loader`. It offers the program ([`Program`], three expression trees and a
+//! It stands on `surge_outside` and `graph_model`. It offers the program ([`Program`], three expression trees and a
 //! way of gathering), the arcs of a view ([`arcs_of`]), the value of each expression ([`start`], [`send`], [`eval`]),
 //! the gathered value ([`gather`]), who computes an update ([`Updater`]), and the plain run of a program
 //! ([`lone_run`]). Contracts see programs, arcs and values as data, and a run as synchronous rounds over all nodes:

@@ -13,7 +13,7 @@ use crate::mail::{Mail, count_degrees, empty_mail};
 use crate::program::Program;
 use crate::round::{advance, start_values};
 use crate::updater::Updater;
-use graph_loader::{Graph, Val};
+use graph_model::{Graph, Val};
 use std::alloc::Global;
 use surge_outside::{List, NoMemory};
 

@@ -11,7 +11,7 @@ use crate::arc::Arc;
 use crate::arithmetic::lesser_of;
 use crate::parts::send;
 use crate::program::{Gather, Program};
-use graph_loader::{Graph, Val};
+use graph_model::{Graph, Val};
 use std::alloc::Global;
 use surge_outside::NoMemory;
 

@@ -10,7 +10,7 @@ use crate::arithmetic::lesser_of;
 use crate::evaluate::evaluate;
 use crate::program::{Gather, Program};
 use crate::words::Words;
-use graph_loader::{EdgeNo, Graph, NodeNo, Val};
+use graph_model::{EdgeNo, Graph, NodeNo, Val};
 
 /// The value with which a node starts. It takes no memory.
 pub fn start(program: &Program, graph: &Graph, node: NodeNo) -> Val

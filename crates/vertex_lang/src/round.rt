@@ -12,7 +12,7 @@ use crate::mail::{Mail, deliver};
 use crate::parts::start;
 use crate::program::Program;
 use crate::updater::Updater;
-use graph_loader::{Graph, NodeNo, Val};
+use graph_model::{Graph, NodeNo, Val};
 use std::alloc::Global;
 use surge_outside::NoMemory;
 

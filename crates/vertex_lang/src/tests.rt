@@ -1,7 +1,7 @@
 //! What is gathered of a few messages, worked out by hand.
 
 use super::*;
-use graph_loader::Val;
+use graph_model::Val;
 
 #[test]
 fn gathers_least(rt: HostRuntime) {

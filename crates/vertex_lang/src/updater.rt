@@ -1,7 +1,7 @@
 //! Who computes an update.
 
 ghost use Rattle.std.specs.Prelude.{◌≡◌, ◌<◌, ◌^◌, ◌+◌, ◌⊎◌, ℕ};
-ghost use Rattle.graph_loader.specs.declared.value.Val.{Val};
+ghost use Rattle.graph_model.specs.declared.value.Val.{Val};
 ghost use Rattle.vertex_lang.specs.declared.program.Program.{Program};
 ghost use Rattle.vertex_lang.specs.Values.{lowest, lowest_number};
 ghost use Rattle.vertex_lang.specs.Leaves.{IsUpdate, HoldsNumber};
@@ -10,7 +10,7 @@ ghost use Rattle.vertex_lang.specs.Expressions.{Answer, updated};
 use crate::evaluate::evaluate;
 use crate::program::Program;
 use crate::words::Words;
-use graph_loader::Val;
+use graph_model::Val;
 use std::sync::ledger::Ledger;
 use surge_outside::{Counted, Steps};
 

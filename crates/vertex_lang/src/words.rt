@@ -1,6 +1,6 @@
 //! What the words of an expression stand for.
 
-use graph_loader::Val;
+use graph_model::Val;
 
 /// The words of an expression at one node or arc. What a part of a program may not name is zero or none there.
 #[derive(Clone, Copy, Debug, PartialEq, Eq)]

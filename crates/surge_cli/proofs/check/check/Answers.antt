@@ -1,7 +1,7 @@
 -- The plan runs `hops`, which fits every graph.
 use Rattle.std.proofs.Common.{Result, Ok, Err, Option, Some, None}
 use Rattle.std.specs.Prelude.{IfOk, IfSome}
-use Rattle.graph_loader.specs.GraphData.{GraphData}
+use Rattle.graph_model.specs.GraphData.{GraphData}
 use Rattle.surge_outside.specs.declared.no_memory.NoMemory.{NoMemory}
 use Rattle.surge_cli.specs.declared.plan.Plan.{Plan}
 use Rattle.surge_cli.specs.HopsPlan.{IsHopsPlan}

@@ -4,6 +4,7 @@ use Rattle.std.specs.Prelude.{◌&&◌, IsTrue}
 use Rattle.std.specs.List.{list_any}
 use Rattle.std.proofs.lemmas.List.{take_all}
 use Rattle.surge_cli.specs.declared.predicate.Pred.{Pred}
+use Rattle.graph_model.specs.GraphData.{cell_of}
 use Rattle.surge_cli.specs.Truth.{truth, cells_compare, place_cell}
 use Rattle.surge_cli.proofs.Folds.{truth-or, truth-compare}
 use Rattle.surge_cli.proofs.predicate.+holds.Goals as goal
@@ -20,7 +21,7 @@ holds-returns-in-Compare t c =
     let e = c.args.edge.0 in
     let first = c.cell.ensures in
     let second = c.cell-in-Compare.ensures in
-    c.compare_cells.ensures ∙ ap (λ a. cells_compare c.in-Compare.sign a c.cell-in-Compare.result) first ∙ ap (λ b. cells_compare c.in-Compare.sign (place_cell g e c.in-Compare.first) b) second
+    c.compare_cells.ensures ∙ ap (λ a. cells_compare c.in-Compare.sign a (cell_of c.cell-in-Compare.result)) first ∙ ap (λ b. cells_compare c.in-Compare.sign (place_cell g e c.in-Compare.first) b) second
     ∙ sym (truth-compare g e c.in-Compare.first c.in-Compare.sign c.in-Compare.second) ∙ ap (λ (p : Pred). truth g e p) (sym c.in-Compare.is)
 
 pub some_holds-returns : goal.some_holds-returns

@@ -1,7 +1,7 @@
 -- One more edge, kept or left out.
 use Rattle.std.proofs.Common.{◌≡◌, ◌∙◌, ◌≤◌, ◌<◌, ◌++◌, ◌∷◌, [], ℕ, List, length, All, vec_len, ap, sym, subst, arith, Vec, true, false, cond, is_ok}
 use Rattle.std.proofs.lemmas.List.Elements.{All-append}
-use Rattle.graph_loader.specs.declared.number.EdgeNo.{EdgeNo}
+use Rattle.graph_model.specs.declared.number.EdgeNo.{EdgeNo}
 use Rattle.surge_cli.specs.Output.{edge, view_edges}
 use Rattle.surge_cli.proofs.ViewEdges.{kept, kept_more, left_out, kept_all, one_within}
 use Rattle.surge_cli.proofs.session.view_edges.Goals as goal

@@ -1,8 +1,8 @@
 -- One more line.
 use Rattle.std.proofs.Common.{◌≡◌, ◌∙◌, ◌++◌, ◌<◌, length, string_bytes, List, ℕ, ap, sym, arith, get_or}
-use Rattle.graph_loader.specs.GraphData.{nodes_by_id, id_of}
-use Rattle.graph_loader.specs.declared.value.Val.{Val}
-use Rattle.graph_loader.specs.declared.value.Val.TheVariants.{Nil}
+use Rattle.graph_model.specs.GraphData.{nodes_by_id, id_of}
+use Rattle.graph_model.specs.declared.value.Val.{Val}
+use Rattle.graph_model.specs.declared.value.Val.TheVariants.{Nil}
 use Rattle.surge_cli.specs.TableText.{node_line, value_line}
 use Rattle.surge_cli.proofs.Growing.{grown}
 use Rattle.surge_cli.proofs.table.push_values.Goals as goal

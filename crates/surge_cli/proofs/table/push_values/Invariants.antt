@@ -1,5 +1,5 @@
 use Rattle.std.proofs.Common.{◌≡◌, ◌++◌, string_bytes, flat_map, take, length}
-use Rattle.graph_loader.specs.GraphData.{nodes_by_id}
+use Rattle.graph_model.specs.GraphData.{nodes_by_id}
 use Rattle.surge_cli.specs.TableText.{node_line}
 use Rattle.surge_cli.proofs.table.push_values.Given as goal
 

@@ -2,8 +2,8 @@ use Rattle.std.proofs.Common.{rules, ◌≡◌, ◌∙◌, sym, ap, ℤ, Bool, t
 use Rattle.std.specs.List.{list_all}
 use Rattle.std.proofs.lemmas.Int.{to_z-of_z, to_z_pos}
 use Rattle.std.proofs.lemmas.Bool.{cond-true, cond-false}
-use Rattle.graph_loader.specs.declared.value.Val.{Val}
-use Rattle.graph_loader.specs.declared.value.Val.TheVariants.{Num}
+use Rattle.graph_model.specs.declared.value.Val.{Val}
+use Rattle.graph_model.specs.declared.value.Val.TheVariants.{Num}
 use Rattle.vertex_lang.specs.declared.program.Expr.{Expr}
 use Rattle.vertex_lang.specs.declared.program.Check.{Check}
 use Rattle.vertex_lang.specs.Expressions.{value_of, holds_of}

@@ -1,5 +1,5 @@
 use Rattle.std.proofs.Common.{◌≡◌, ◌∙◌, ◌+◌, List, length, ap, sym, below_more, arith}
-use Rattle.graph_loader.specs.declared.value.Val.{Val}
+use Rattle.graph_model.specs.declared.value.Val.{Val}
 use Rattle.vertex_lang.specs.Rounds.{lone, next}
 use Rattle.vertex_lang.proofs.Settling.{lone_starts, lone_next, length-lone}
 use Rattle.vertex_lang.proofs.lone.run_rounds.Goals as goal

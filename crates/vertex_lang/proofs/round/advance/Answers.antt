@@ -1,8 +1,8 @@
 use Rattle.std.proofs.Common.{◌≡◌, ◌∙◌, ◌<◌, List, ap, length, arith}
 use Rattle.std.proofs.lemmas.List.FromFn.{length-map-range_with_len, get_or-map-range_with_len}
-use Rattle.graph_loader.specs.declared.value.Val.{Val}
-use Rattle.graph_loader.specs.declared.value.Val.TheVariants.{Nil}
-use Rattle.graph_loader.specs.GraphData.{id_of}
+use Rattle.graph_model.specs.declared.value.Val.{Val}
+use Rattle.graph_model.specs.declared.value.Val.TheVariants.{Nil}
+use Rattle.graph_model.specs.GraphData.{id_of}
 use Rattle.vertex_lang.specs.declared.mail.Mail.{Mail}
 use Rattle.vertex_lang.specs.Expressions.{start_of}
 use Rattle.vertex_lang.specs.Arcs.{gathered_of}

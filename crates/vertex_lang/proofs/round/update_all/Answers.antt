@@ -1,7 +1,7 @@
 use Rattle.std.proofs.Common.{◌≡◌, ◌∙◌, ◌<◌, ap, length, map, get_or, arith}
 use Rattle.std.specs.List.{range_with_len}
-use Rattle.graph_loader.specs.declared.value.Val.{Val}
-use Rattle.graph_loader.specs.GraphData.{id_of}
+use Rattle.graph_model.specs.declared.value.Val.{Val}
+use Rattle.graph_model.specs.GraphData.{id_of}
 use Rattle.vertex_lang.specs.Rounds.{value_at}
 use Rattle.vertex_lang.specs.Mail.{next_from, no_mail}
 use Rattle.vertex_lang.proofs.Updates.{update_after_change, update_first, all_updated, change_told}

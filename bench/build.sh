@@ -1,0 +1,30 @@
+#!/bin/sh
+# Builds a bench's program beside copies of the crates that it stands on, and prints where the program is.
+# Called as: build.sh NAME 'CRATES THAT IT STANDS ON, LOWEST FIRST' 'PORTED CRATES'
+set -eu
+name=$1
+stands_on=$2
+ported=$3
+top=$(cd "$(dirname "$0")/.." && pwd)
+work=${BENCH_DIR:-${TMPDIR:-/tmp}/surge-bench}/$name
+mkdir -p "$work/crates/bench_$name/src"
+cp "$top/HANDLES" "$work/HANDLES"
+: > "$work/crates.txt"
+for crate in $stands_on; do
+    rm -rf "$work/crates/$crate/src" "$work/crates/$crate/specs" "$work/crates/$crate/proofs"
+    mkdir -p "$work/crates/$crate"
+    for part in src specs proofs; do
+        if [ -d "$top/crates/$crate/$part" ]; then
+            cp -R "$top/crates/$crate/$part" "$work/crates/$crate/$part"
+        fi
+    done
+    grep "^$crate:" "$top/crates.txt" >> "$work/crates.txt"
+done
+echo "bench_$name: $stands_on $ported" >> "$work/crates.txt"
+cp "$top/bench/$name/main.rt.txt" "$work/crates/bench_$name/src/main.rt"
+cd "$work/crates/bench_$name"
+rt run > "$work/built.txt" 2> "$work/build.log" || {
+    tail -n 40 "$work/build.log" >&2
+    exit 1
+}
+find "$work/crates/bench_$name/out" -type f -name "bench_$name" -perm -u+x | head -n 1

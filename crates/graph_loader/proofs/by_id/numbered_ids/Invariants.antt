@@ -1,6 +1,0 @@
-use Rattle.std.proofs.Common.{◌≡◌, take}
-use Rattle.graph_loader.specs.GraphData.{numbered}
-use Rattle.graph_loader.proofs.by_id.numbered_ids.Given as goal
-
-abbrev pub invariant-loop-number : goal.invariant-loop-number
-invariant-loop-number l = l.pairs.items ≡ numbered 0 (take l.number l.ids)

@@ -1,0 +1,4 @@
+pub mod Same
+pub mod GraphData
+pub mod GraphInside
+pub mod Joining

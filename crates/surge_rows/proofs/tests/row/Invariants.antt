@@ -1,5 +1,0 @@
--- The counter is over the ledger that the row makes.
-use Rattle.surge_rows.proofs.tests.row.Given as goal
-
-abbrev pub ghosts-run_memory : goal.ghosts-run_memory
-ghosts-run_memory a = record { name = a.blank.name; parts = a.blank.parts }
