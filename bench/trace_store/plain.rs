@@ -1,5 +1,9 @@
 //! What bench/trace_store/main.rt.txt does, in plain Rust.
 
+#[path = "../consolidate.rs"]
+mod consolidate;
+
+use consolidate::consolidate;
 use std::time::Instant;
 
 type Time = (u32, u32);
@@ -47,29 +51,6 @@ fn insert(trace: &mut Vec<Entry>, batch: &[((u32, u32), u64)], t: Time) {
     }
     trace.extend_from_slice(&left[i..]);
     trace.extend_from_slice(&right[j..]);
-}
-
-fn consolidate<R: Copy + Ord>(entries: &mut Vec<(R, u64)>) {
-    let Some(&first) = entries.first() else { return };
-    let mut held = first;
-    let mut kept = 0;
-    for i in 1..entries.len() {
-        let next = entries[i];
-        if next.0 == held.0 {
-            held.1 = held.1.wrapping_add(next.1);
-        } else {
-            if held.1 != 0 {
-                entries[kept] = held;
-                kept += 1;
-            }
-            held = next;
-        }
-    }
-    if held.1 != 0 {
-        entries[kept] = held;
-        kept += 1;
-    }
-    entries.truncate(kept);
 }
 
 fn accumulate(trace: &[Entry], key: u32, t: Time, into: &mut Vec<(u32, u64)>) {
