@@ -1,0 +1,7 @@
+mod Nexts
+mod Meanings
+mod Having
+mod PredicateLaws
+mod ExpressionLaws
+mod StatementLaws
+mod JudgingLaws

@@ -1,0 +1,14 @@
+use Rattle.std.proofs.Common.{length, ℕ}
+use Rattle.gvdl_tokens.specs.declared.token.Token.TheVariants as t
+use Rattle.gvdl_tokens.specs.declared.token.Sign.TheVariants as s
+use Rattle.phrase_theory.specs.Phrases.{one, separated}
+use Rattle.phrase_theory.specs.ChainLaws.{Front, later}
+use Rattle.gvdl_parser.specs.Terminals.{opens}
+use Rattle.gvdl_parser.specs.Statements.{after_items}
+use Rattle.gvdl_parser.proofs.call.name_chain.Given as goal
+
+abbrev pub invariant-more : goal.invariant-more
+invariant-more l = (n : ℕ) → Front opens (later (t.Sign s.Comma) (λ m. one t.Name)) (λ m. separated (t.Sign s.Comma) (one t.Name)) after_items (λ members. members) n l.fn.cursor.rest.now l.cursor.rest.now l.members
+
+abbrev pub decreases-more : goal.decreases-more
+decreases-more l = length l.cursor.rest.now

@@ -1,0 +1,19 @@
+use Rattle.std.proofs.Common.{refl, sym, ap, rules, Some, ◌≡◌, ◌≢◌}
+use Rattle.phrase_theory.specs.Reading.{next, alone}
+use Rattle.phrase_theory.specs.ChoiceLaws.{left_reads, right_reads, avoids_word}
+use Rattle.gvdl_parser.specs.Kinds.{kind_at}
+use Rattle.gvdl_parser.specs.Terminals.{opens}
+use Rattle.gvdl_parser.proofs.Nexts.{clear_at, clearing}
+use Rattle.gvdl_parser.specs.Statements.{rounds_word}
+use Rattle.gvdl_tokens.specs.declared.word.Word.TheVariants as w
+use Rattle.gvdl_tokens.specs.declared.token.Token.TheVariants as t
+use Rattle.gvdl_tokens.specs.declared.token.Kind.TheVariants as kind
+use Rattle.gvdl_parser.proofs.run.rounds_word.Goals as goal
+
+pub returns-then-sees_word : goal.returns-then-sees_word
+unfolding rounds_word
+returns-then-sees_word c = λ n. let e : next c.args.cursor.now.rest.now ≡ Some (t.Word w.Round) = search rules in right_reads opens _ _ alone n _ _ _ refl (λ m. clear_at (kind.Word w.Round) (sym (ap kind_at e)) (search clearing depth 12)) (c.word.ensures n)
+
+pub returns : goal.returns
+unfolding rounds_word
+returns c = λ n. let n0 : next c.args.cursor.now.rest.now ≢ Some (t.Word w.Round) = search rules in left_reads opens _ _ alone n _ _ _ refl (λ m. avoids_word _ _ alone n0) (c.word-2.ensures n)

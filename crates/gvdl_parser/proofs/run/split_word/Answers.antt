@@ -1,0 +1,23 @@
+use Rattle.std.proofs.Common.{refl, sym, ap, rules, Some, ◌≡◌, ◌≢◌}
+use Rattle.phrase_theory.specs.Reading.{next, alone}
+use Rattle.phrase_theory.specs.ChoiceLaws.{left_reads, right_reads, avoids_then, avoids_word}
+use Rattle.gvdl_parser.specs.Kinds.{kind_at}
+use Rattle.gvdl_parser.specs.Terminals.{opens}
+use Rattle.gvdl_parser.proofs.Nexts.{clear_at, clearing}
+use Rattle.gvdl_parser.specs.Statements.{behind, split_none, split_every, split_auto, split_word}
+use Rattle.gvdl_tokens.specs.declared.word.Word.TheVariants as w
+use Rattle.gvdl_tokens.specs.declared.token.Token.TheVariants as t
+use Rattle.gvdl_tokens.specs.declared.token.Kind.TheVariants as kind
+use Rattle.gvdl_parser.proofs.run.split_word.Goals as goal
+
+pub returns-then-sees_word : goal.returns-then-sees_word
+unfolding split_word split_none split_every split_auto behind
+returns-then-sees_word c = λ n. let e : next c.args.cursor.now.rest.now ≡ Some (t.Word w.None) = search rules in left_reads opens _ _ alone n _ _ _ refl (λ m. clear_at (kind.Word w.None) (sym (ap kind_at e)) (search clearing depth 12)) (c.split_none.ensures n)
+
+pub returns-then-sees_word-2 : goal.returns-then-sees_word-2
+unfolding split_word split_none split_every split_auto behind
+returns-then-sees_word-2 c = λ n. let e : next c.args.cursor.now.rest.now ≡ Some (t.Word w.Every) = search rules in right_reads opens _ _ alone n _ _ _ refl (λ m. clear_at (kind.Word w.Every) (sym (ap kind_at e)) (search clearing depth 12)) (left_reads opens _ _ alone n _ _ _ refl (λ m. clear_at (kind.Word w.Every) (sym (ap kind_at e)) (search clearing depth 12)) (c.split_every.ensures n))
+
+pub returns : goal.returns
+unfolding split_word split_none split_every split_auto behind
+returns c = λ n. let n0 : next c.args.cursor.now.rest.now ≢ Some (t.Word w.None) = search rules in let n1 : next c.args.cursor.now.rest.now ≢ Some (t.Word w.Every) = search rules in right_reads opens _ _ alone n _ _ _ refl (λ m. avoids_then _ _ _ alone (avoids_word _ _ alone n0)) (right_reads opens _ _ alone n _ _ _ refl (λ m. avoids_then _ _ _ alone (avoids_then _ _ _ alone (avoids_word _ _ alone n1))) (c.split_auto.ensures n))

@@ -1,0 +1,11 @@
+use Rattle.std.proofs.Common.{◌∙◌, sym, true}
+use Rattle.phrase_theory.specs.SequenceLaws.{one_missing, one_found}
+use Rattle.gvdl_parser.proofs.Nexts.{past}
+use Rattle.gvdl_parser.proofs.Meanings.{extreme_token_at, extreme_token_one}
+use Rattle.gvdl_parser.proofs.terminal.extreme_word.Goals as goal
+
+pub returns-in_default : goal.returns-in_default
+returns-in_default c = λ n. one_missing true _ n (λ v. past _ _ (λ e. c.in_default.ensures.none v (c.kind.ensures ∙ e)))
+
+pub returns : goal.returns
+returns c = λ n. one_found (extreme_token_one c.in-Some.meant) (extreme_token_at c.in-Some.meant _ (sym c.kind.ensures ∙ c.in-Some.ensures.found)) c.skip.ensures

@@ -1,0 +1,10 @@
+pub mod Phrases
+pub mod Reading
+pub mod FirstFault
+pub mod SequenceLaws
+pub mod ChoiceLaws
+pub mod LevelLaws
+pub mod ChainLaws
+pub mod OptionalLaws
+pub mod WholeLaws
+pub mod FirstFaultLaws
