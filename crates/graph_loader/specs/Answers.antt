@@ -53,7 +53,12 @@ abbrev pub Tells : {A : Type 0} → Option Blame → Result A Refusal → Type 0
 Tells o (Ok x) = o ≡ None
 Tells o (Err e) = IfBlame e (λ b. o ≡ Some b)
 
--- the same of a whole file
+-- an answer that tells what is wrong, or that nothing is but what this says, or that memory was refused
+abbrev pub TellsBut : {A : Type 0} → Option Blame → Option Blame → Result A Refusal → Type 0
+TellsBut rest o (Ok x) = o ≡ rest
+TellsBut rest o (Err e) = IfBlame e (λ b. o ≡ Some b)
+
+-- an answer of a whole file that tells what is wrong, that nothing is, or that memory was refused
 abbrev pub TellsFault : {A : Type 0} → Option DataFault → Result A LoadFault → Type 0
 TellsFault o (Ok x) = o ≡ None
 TellsFault o (Err e) = IfFault e (λ f. o ≡ Some f)

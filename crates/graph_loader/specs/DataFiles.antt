@@ -151,7 +151,7 @@ rows_fault file judge item earlier [] = None
 rows_fault file judge item earlier (row ∷ rows) =
     earlier_of (option_map (fault_in file (length earlier + 2)) (judge earlier row)) (rows_fault file judge item (earlier ++ item row ∷ []) rows)
 
--- a record with fewer or more fields than its header, or none that the rest doesn't give
+-- what is wrong with a record of another width than this, and else what the rest says
 abbrev pub unless_wide : Row → ℕ → Option Blame → Option Blame
 unless_wide row width rest = if length row == width then rest else Some (blame 0 wrong.WrongWidth)
 

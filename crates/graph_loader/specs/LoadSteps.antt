@@ -1,6 +1,6 @@
 -- What the steps of a load give.
-use Rattle.std.specs.Prelude.{◌≡◌, ℕ, ◌+◌, ◌&&◌, nat_lt, List, [], ◌∷◌, ◌++◌, length, map, Option, Some, None, Ok, if◌then◌else◌}
-use Rattle.std.specs.Result.{result_unwrap_or}
+use Rattle.std.specs.Prelude.{◌≡◌, ℕ, ◌+◌, ◌<◌, ◌==◌, ◌&&◌, nat_eq, nat_lt, List, [], ◌∷◌, ◌++◌, length, map, get_or, set, position, Option, Some, None, option_map, unwrap_or, Ok, if◌then◌else◌}
+use Rattle.std.specs.Result.{result_err, result_unwrap_or}
 use Rattle.std.specs.Str.{is_utf8, bytes_eq}
 use Rattle.std.specs.Borrow.{Bor}
 use Rattle.graph_model.specs.declared.number.NodeNo.{NodeNo}
@@ -11,7 +11,11 @@ use Rattle.graph_model.specs.declared.cell.Cells.TheVariants as cells
 use Rattle.graph_loader.specs.declared.fault.DataKind.{DataKind}
 use Rattle.graph_loader.specs.declared.fault.DataKind.TheVariants as wrong
 use Rattle.graph_loader.specs.declared.fault.Blame.{Blame}
-use Rattle.graph_loader.specs.DataFiles.{Row, blame, bool_in, cells_from, cells_of, edges_table, ends_of_row, field_of, ids_of, int_in, kinds_of, nodes_table, table}
+use Rattle.graph_loader.specs.declared.fault.DataFault.{DataFault}
+use Rattle.graph_loader.specs.declared.fault.DataFile.TheVariants as file
+use Rattle.graph_model.specs.GraphData.{node}
+use Rattle.graph_loader.specs.Spelling.{id_spelled}
+use Rattle.graph_loader.specs.DataFiles.{Row, blame, bool_in, cells_from, cells_of, earlier_of, edge_fault, edges_table, end_named, ends_of_row, fault_in, field_of, ids_of, int_in, kinds_of, nodes_table, table}
 
 -- ---- the header
 
@@ -42,6 +46,52 @@ with_cell (cells.Bool items) field = cells.Bool (items ++ result_unwrap_or (bool
 abbrev pub pushed : Row → ℕ → List Cells → List Cells
 pushed row place [] = []
 pushed row place (c ∷ cs) = with_cell c (field_of row place) ∷ pushed row (place + 1) cs
+
+-- ---- places of ids
+
+abbrev pub no_place : ℕ
+no_place = 4_294_967_295
+
+-- the place that a slot holds
+abbrev pub place_in : ℕ → Option ℕ
+place_in slot = if slot == no_place then None else Some slot
+
+-- a table that holds, for each id below its length, the place of the id among these
+abbrev pub IsTableOf : List ℕ → List ℕ → Type 0
+IsTableOf ids slots = (id : ℕ) → id < length slots → place_in (get_or slots id no_place) ≡ position (nat_eq id) ids
+
+-- a table in which this id, if it is below the length and has no place, has this one
+abbrev pub with_place : List ℕ → ℕ → ℕ → List ℕ
+with_place slots id place = if nat_lt id (length slots) && (get_or slots id no_place == no_place) then set slots id place else slots
+
+-- ---- ends, by their ids
+
+-- the ids of the source and of the destination of a record's edge
+abbrev pub pair_of_row : Row → ℕ × ℕ
+pair_of_row row = (unwrap_or (id_spelled (field_of row 0)) 0, unwrap_or (id_spelled (field_of row 1)) 0)
+
+-- what is wrong with ends that have these ids, of which the first stands in column 1: a node with the id is missing
+abbrev pub pair_fault : List ℕ → ℕ × ℕ → Option Blame
+pair_fault ids p =
+    earlier_of (option_map (blame 1) (result_err (end_named ids (Some p.0)))) (option_map (blame 2) (result_err (end_named ids (Some p.1))))
+
+-- the ends that have these ids
+abbrev pub pair_ends : List ℕ → ℕ × ℕ → NodeNo × NodeNo
+pair_ends ids p = (result_unwrap_or (end_named ids (Some p.0)) (node 0), result_unwrap_or (end_named ids (Some p.1)) (node 0))
+
+-- the first fault of the ends that have these ids, of edges that come after so many others
+abbrev pub pairs_fault : List ℕ → ℕ → List (ℕ × ℕ) → Option DataFault
+pairs_fault ids count [] = None
+pairs_fault ids count (p ∷ pairs) = earlier_of (option_map (fault_in file.Edges (count + 2)) (pair_fault ids p)) (pairs_fault ids (count + 1) pairs)
+
+-- these ends, and behind them those that have these ids
+abbrev pub ends_so_far : List ℕ → List (NodeNo × NodeNo) → List (ℕ × ℕ) → List (NodeNo × NodeNo)
+ends_so_far ids ends pairs = ends ++ map (pair_ends ids) pairs
+
+-- the first fault of the edges whose ends are known by their ids alone, and of the record behind them
+abbrev pub fault_by_row : List Kind → List ℕ → List (NodeNo × NodeNo) → List (ℕ × ℕ) → Row → Option DataFault
+fault_by_row kinds ids ends pairs row =
+    earlier_of (pairs_fault ids (length ends) pairs) (option_map (fault_in file.Edges (length ends + length pairs + 2)) (edge_fault kinds ids (ends_so_far ids ends pairs) row))
 
 -- ---- files
 

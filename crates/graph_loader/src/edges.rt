@@ -1,19 +1,19 @@
 //! The edges file.
 
-ghost use Rattle.std.specs.Prelude.{◌≡◌, ◌+◌, ◌≤◌, ◌<◌, ◌++◌, ◌∷◌, [], length, map, IfErr, IfOk, OnOk};
+ghost use Rattle.std.specs.Prelude.{◌≡◌, ◌+◌, ◌≤◌, ◌<◌, ◌++◌, ◌∷◌, [], length, map, IfErr, IfOk, OnErr, OnOk, Some};
 ghost use Rattle.csv.specs.Records.{fields_of};
 ghost use Rattle.graph_model.specs.GraphData.{kind_of};
-ghost use Rattle.graph_loader.specs.Answers.{Answers, IfFault, Tells, TellsFault};
-ghost use Rattle.graph_loader.specs.DataFiles.{blame, cells_of, earlier_of, edge_fault, edges_table, end_fault, end_in, ends_of_row, field_of, kinds_of, result_map_err, rows_fault};
-ghost use Rattle.graph_loader.specs.LoadSteps.{pushed, SpellsEdges};
+ghost use Rattle.graph_loader.specs.Answers.{IfFault, TellsBut, TellsFault};
+ghost use Rattle.graph_loader.specs.DataFiles.{cells_of, edge_fault, edges_table, ends_of_row, kinds_of, rows_fault};
+ghost use Rattle.graph_loader.specs.LoadSteps.{IsTableOf, ends_so_far, fault_by_row, pair_ends, pair_fault, pair_of_row, pairs_fault, pushed, SpellsEdges};
 ghost use Rattle.graph_loader.specs.RowsLeft.{IsReady, left_of};
 
 use crate::cells::{add_cells, empty_cells};
+use crate::ends::{ends_with, link, make_room, pair_from};
 use crate::fault::{DataFile, DataKind, LoadFault, Refusal};
-use crate::fields::field;
 use crate::header::edge_columns;
+use crate::places::places_of;
 use crate::rows::Rows;
-use crate::spelling::id_from;
 use csv::ByteRecord;
 use graph_model::{Cells, Column, NodeNo};
 use indexmap::IndexSet;
@@ -67,13 +67,21 @@ fn edges_under(
     ensures cells { IfOk result (λ t. t.cells ≡ cells_of (left_of rows.old.reader) 2 (kinds_of columns)) }
 {
     let mut ends = List::new(alloc);
+    let mut waiting = List::new(alloc);
+    let places = places_of(alloc, ids)?;
     let mut cells = empty_cells(alloc, columns.as_slice())?;
     while rows.advance()? {
-        let number = ends.len() as u32 + 2;
-        if let Err(refusal) = add_edge(alloc, ids, &mut ends, &mut cells, rows.row()) {
-            return Err(refusal.of_record(DataFile::Edges, number));
-        }
+        add_edge(
+            alloc,
+            ids,
+            &places,
+            &mut ends,
+            &mut waiting,
+            &mut cells,
+            rows.row(),
+        )?;
     }
+    link(ids, &places, &mut ends, &mut waiting)?;
     Ok(EdgeTable {
         ends,
         columns,
@@ -81,66 +89,70 @@ fn edges_under(
     })
 }
 
-/// Adds the edge of a record to those of the earlier records.
+/// Adds the edge of a record to those of the earlier records, or tells the first fault of these. Its ends may wait.
 fn add_edge(
     alloc: Global,
     ids: &IndexSet<u64>,
+    places: &[u32],
     ends: &mut List<(NodeNo, NodeNo)>,
+    waiting: &mut List<(u64, u64)>,
+    cells: &mut Vec<Cells>,
+    row: &ByteRecord,
+) -> Result<(), LoadFault>
+    requires few_nodes { length ids.now.keys ≤ 1_000_000 }
+    requires table { IsTableOf ids.now.keys places.now }
+    requires few_edges { length ends.old + length waiting.old ≤ 4_000_000 }
+    requires few_columns { length cells.old.items ≤ 16 }
+    ensures told { IfErr result (λ e. IfFault e (λ f. fault_by_row (map kind_of cells.old.items) ids.now.keys ends.old waiting.old (fields_of row.now) ≡ Some f)) }
+    ensures waits { OnOk result (pairs_fault ids.now.keys (length ends.new) waiting.new ≡ fault_by_row (map kind_of cells.old.items) ids.now.keys ends.old waiting.old (fields_of row.now)) }
+    ensures ends { OnOk result (ends_so_far ids.now.keys ends.new waiting.new ≡ ends_so_far ids.now.keys ends.old waiting.old ++ ends_of_row ids.now.keys (fields_of row.now) ∷ []) }
+    ensures few { OnOk result (length ends.new + length waiting.new ≤ 4_000_000) }
+    ensures cells { OnOk result (cells.new.items ≡ pushed (fields_of row.now) 2 cells.old.items) }
+{
+    make_room(ids, places, ends, waiting)?;
+    let number = (ends.len() + waiting.len()) as u32 + 2;
+    match read_edge(alloc, ids, places, ends, waiting, cells, row) {
+        Ok(()) => Ok(()),
+        Err(refusal) => {
+            link(ids, places, ends, waiting)?;
+            Err(refusal.of_record(DataFile::Edges, number))
+        }
+    }
+}
+
+/// Reads the edge of a record: its cells are added to those of the earlier records, and the ids of its ends to those that
+/// wait. A refusal tells what is wrong with the record; a record that is taken may have an end that is no node.
+fn read_edge(
+    alloc: Global,
+    ids: &IndexSet<u64>,
+    places: &[u32],
+    ends: &List<(NodeNo, NodeNo)>,
+    waiting: &mut List<(u64, u64)>,
     cells: &mut Vec<Cells>,
     row: &ByteRecord,
 ) -> Result<(), Refusal>
     requires few_nodes { length ids.now.keys ≤ 1_000_000 }
+    requires table { IsTableOf ids.now.keys places.now }
+    requires few_edges { length ends.now + length waiting.old ≤ 4_000_000 }
     requires few_columns { length cells.old.items ≤ 16 }
-    ensures told { Tells (edge_fault (map kind_of cells.old.items) ids.now.keys ends.old (fields_of row.now)) result }
-    ensures ends { OnOk result (ends.new ≡ ends.old ++ ends_of_row ids.now.keys (fields_of row.now) ∷ []) }
+    ensures told { TellsBut (pair_fault ids.now.keys (pair_of_row (fields_of row.now))) (edge_fault (map kind_of cells.old.items) ids.now.keys (ends_so_far ids.now.keys ends.now waiting.old) (fields_of row.now)) result }
+    ensures room { OnOk result (length ends.now + length waiting.old < 4_000_000) }
+    ensures waits { OnOk result (waiting.new ≡ waiting.old ++ pair_of_row (fields_of row.now) ∷ []) }
+    ensures same { OnErr result (waiting.new ≡ waiting.old) }
+    ensures ends { OnOk result (pair_ends ids.now.keys (pair_of_row (fields_of row.now)) ≡ ends_of_row ids.now.keys (fields_of row.now)) }
     ensures cells { OnOk result (cells.new.items ≡ pushed (fields_of row.now) 2 cells.old.items) }
 {
-    if ends.len() >= MOST_EDGES {
+    if ends.len() + waiting.len() >= MOST_EDGES {
         return Err(Refusal::blame(0, DataKind::TooManyEdges));
     }
     if row.len() != cells.len() + 2 {
         return Err(Refusal::blame(0, DataKind::WrongWidth));
     }
-    let between = ends_from(ids, row)?;
-    ends.push(between)?;
-    add_cells(alloc, row, 2, cells)
-}
-
-/// The source and the destination of a record's edge.
-fn ends_from(ids: &IndexSet<u64>, row: &ByteRecord) -> Result<(NodeNo, NodeNo), Refusal>
-    requires few_nodes { length ids.now.keys ≤ 1_000_000 }
-    requires width { 2 ≤ length (fields_of row.now) }
-    ensures told { Tells (earlier_of (end_fault ids.now.keys (fields_of row.now) 0) (end_fault ids.now.keys (fields_of row.now) 1)) result }
-    ensures ends { IfOk result (λ e. e ≡ ends_of_row ids.now.keys (fields_of row.now)) }
-{
-    let source = end_at(ids, row, 0)?;
-    let destination = end_at(ids, row, 1)?;
-    Ok((source, destination))
-}
-
-/// The node that the field at a place of a record names by its id.
-fn end_at(ids: &IndexSet<u64>, row: &ByteRecord, place: usize) -> Result<NodeNo, Refusal>
-    requires few_nodes { length ids.now.keys ≤ 1_000_000 }
-    requires width { place < length (fields_of row.now) }
-    requires place { place < 2 }
-    ensures { Answers (result_map_err (blame (place + 1)) (end_in ids.now.keys (field_of (fields_of row.now) place))) result }
-{
-    match end_from(ids, field(row, place)) {
-        Ok(end) => Ok(end),
-        Err(kind) => Err(Refusal::blame(place as u32 + 1, kind)),
+    let pair = pair_from(ids, places, row)?;
+    if let Err(refusal) = add_cells(alloc, row, 2, cells) {
+        ends_with(ids, places, pair)?;
+        return Err(refusal);
     }
-}
-
-/// The node that a field names by its id, or what is wrong with the field.
-fn end_from(ids: &IndexSet<u64>, field: &[u8]) -> Result<NodeNo, DataKind>
-    requires { length ids.now.keys ≤ 1_000_000 }
-    ensures { result ≡ end_in ids.now.keys field.now }
-{
-    let Some(id) = id_from(field) else {
-        return Err(DataKind::BadId);
-    };
-    match ids.get_index_of(&id) {
-        Some(place) => Ok(NodeNo(place as u32)),
-        None => Err(DataKind::UnknownNode),
-    }
+    waiting.push(pair)?;
+    Ok(())
 }

@@ -6,16 +6,19 @@
 //!
 //! It promises that [`load`] answers the graph that the bytes spell or their first fault, with its file, record, column
 //! and kind: `graph_of` of `specs/DataFiles.antt` cuts each file into records and judges one after the other, each field
-//! by its own definition in `specs/Spelling.antt`. The code keeps cells in columns and ids in a table of hashes.
+//! by its own definition in `specs/Spelling.antt`. The code keeps cells in columns and ids in a table of hashes, and the
+//! places of small ids in a table beside it.
 #![tactic(auto)]
 
 mod cells;
 mod edges;
+mod ends;
 mod fault;
 mod fields;
 mod header;
 mod loading;
 mod nodes;
+mod places;
 mod rows;
 mod spelling;
 

@@ -28,8 +28,8 @@ use surge_outside::{List, NoMemory};
 ///   2^63 - 1 as 1 to 19 digits behind an optional minus sign; of kind `bool` it is empty or one of `true`, `True`,
 ///   `TRUE`, `false`, `False` and `FALSE`; of kind `str` it is any text, and never absent.
 ///
-/// Nodes and edges are numbered in the order of the files, from 0. The time is that of reading the files, of a hash
-/// look-up for each id and each end, and of a sort of the nodes.
+/// Nodes and edges are numbered in the order of the files, from 0. The time is that of reading the files, of a look-up for
+/// each id and each end, and of a sort of the nodes.
 ///
 /// `Fault` tells the first fault. The nodes file is judged wholly before the edges file, and each file record by record
 /// from the top: the header from the left, and of another record first whether there is one too many, then how many

@@ -410,3 +410,91 @@ fn edges_that_are_bad(rt: HostRuntime) -> Result<(), Fail> {
     )?;
     Ok(())
 }
+
+#[test]
+fn an_unknown_end_before_a_later_fault(rt: HostRuntime) -> Result<(), Fail> {
+    loads_as(
+        &rt,
+        rt.alloc(),
+        NODES,
+        b"src,dst,y:int\n1,2,1\n1,9,1\n1,2,x\n",
+        "Edges record 3 column 2: UnknownNode",
+    )?;
+    loads_as(
+        &rt,
+        rt.alloc(),
+        NODES,
+        b"src,dst,y:int\n1,2,1\n1,2,x\n1,9,1\n",
+        "Edges record 3 column 3: BadCell",
+    )?;
+    Ok(())
+}
+
+/// A nodes file whose table of places has eight slots, one for each id below 8: 100 has none.
+const SPREAD_NODES: &[u8] = b"id\n7\n100\n0\n4\n";
+
+#[test]
+fn small_and_large_ids(rt: HostRuntime) -> Result<(), Fail> {
+    loads_as(
+        &rt,
+        rt.alloc(),
+        SPREAD_NODES,
+        b"src,dst\n0,7\n100,4\n7,100\n4,0\n",
+        "7 100 0 4 / 2>0 1>3 0>1 3>2 ",
+    )?;
+    loads_as(
+        &rt,
+        rt.alloc(),
+        SPREAD_NODES,
+        b"src,dst\n0,7\n100,5\n",
+        "Edges record 3 column 2: UnknownNode",
+    )?;
+    loads_as(
+        &rt,
+        rt.alloc(),
+        SPREAD_NODES,
+        b"src,dst\n0,7\n8,0\n",
+        "Edges record 3 column 1: UnknownNode",
+    )?;
+    loads_as(
+        &rt,
+        rt.alloc(),
+        SPREAD_NODES,
+        b"src,dst\n0,7\n100,9223372036854775807\n",
+        "Edges record 3 column 2: UnknownNode",
+    )?;
+    Ok(())
+}
+
+// So many edges between the nodes 1 and 2, and then these records.
+fn many_edges(alloc: Global, count: usize, last: &[u8]) -> Result<Vec<u8>, AllocError> {
+    let mut text = Vec::new(alloc);
+    text.extend_from_slice(b"src,dst\n")?;
+    for _ in 0..count {
+        text.extend_from_slice(b"1,2\n")?;
+    }
+    text.extend_from_slice(last)?;
+    Ok(text)
+}
+
+#[test]
+fn unknown_ends_behind_many_edges(rt: HostRuntime) -> Result<(), Fail> {
+    let alloc = rt.alloc();
+    let edges = many_edges(alloc, 1100, b"1,9\n1,x\n")?;
+    loads_as(
+        &rt,
+        alloc,
+        NODES,
+        edges.as_slice(),
+        "Edges record 1102 column 2: UnknownNode",
+    )?;
+    let edges = many_edges(alloc, 1100, b"x,9\n")?;
+    loads_as(
+        &rt,
+        alloc,
+        NODES,
+        edges.as_slice(),
+        "Edges record 1102 column 1: BadId",
+    )?;
+    Ok(())
+}

@@ -1,48 +1,50 @@
-use Rattle.std.proofs.Common.{◌≡◌, ◌∙◌, sym, ap, true, ◌+◌, List, [], ◌∷◌, length, map, None, arith}
-use Rattle.std.proofs.lemmas.List.{length-map, length-append}
+use Rattle.std.proofs.Common.{◌≡◌, ◌∙◌, sym, ap, true, ℕ, List, [], length, map, arith}
+use Rattle.std.proofs.lemmas.List.{length-map}
+use Rattle.std.proofs.lemmas.Result.{err_from_is_err_and}
 use Rattle.csv.specs.Records.{fields_of}
 use Rattle.graph_model.specs.declared.cell.Column.{Column}
 use Rattle.graph_model.specs.declared.number.NodeNo.{NodeNo}
 use Rattle.graph_loader.specs.declared.fault.DataFile.TheVariants as file
-use Rattle.graph_loader.specs.Answers.{fault_at}
 use Rattle.graph_loader.specs.DataFiles.{edge_fault, ends_of_row, kinds_of}
 use Rattle.graph_loader.specs.LoadSteps.{no_cells}
 use Rattle.graph_loader.specs.RowsLeft.{left_of, given}
 use Rattle.graph_loader.proofs.CellFacts.{no-cells}
-use Rattle.graph_loader.proofs.RecordFacts.{few-edges, kinds-so-far, more-so-far, nothing-yet, refused-at, width-so-far}
+use Rattle.graph_loader.proofs.EndFacts.{more-waits, none-waits, stops-by-row, width-waiting}
+use Rattle.graph_loader.proofs.RecordFacts.{nothing-yet}
 use Rattle.graph_loader.proofs.edges.edges_under.Goals as goal
 
 pub loop-cells-init : goal.loop-cells-init
 loop-cells-init c =
-    let none : c.new-ends.result ≡ [] = c.new-ends.ensures in (
+    let ids = c.args.ids.now.keys in
+    let all = left_of c.args.rows.now.reader in
+    let none : c.new-ends.result ≡ [] = c.new-ends.ensures in
+    let no_pair : c.new-waiting.result ≡ [] = c.new-waiting.ensures in (
       c.requires.ready,
-      nothing-yet (NodeNo × NodeNo) file.Edges (ends_of_row c.args.ids.now.keys) 2 (λ kinds. edge_fault kinds c.args.ids.now.keys) c.args.columns (left_of c.args.rows.now.reader) c.new-ends.result c.in_ok-cells.cells.items none
-          (c.in_ok-cells.ensures ∙ ap (map (λ (k : Column). no_cells k.kind)) c.as_slice.ensures ∙ no-cells c.args.columns 2),
-      omega (arith, ap (λ (l : List (NodeNo × NodeNo)). length l) none),
+      none-waits ids (kinds_of c.args.columns) all all c.new-ends.result c.new-waiting.result c.in_ok-cells.cells.items
+          (nothing-yet (NodeNo × NodeNo) file.Edges (ends_of_row ids) 2 (λ kinds. edge_fault kinds ids) c.args.columns all c.new-ends.result c.in_ok-cells.cells.items none
+          (c.in_ok-cells.ensures ∙ ap (map (λ (k : Column). no_cells k.kind)) c.as_slice.ensures ∙ no-cells c.args.columns 2)) no_pair,
+      omega (arith, ap (λ (l : List (NodeNo × NodeNo)). length l) none, ap (λ (l : List (ℕ × ℕ)). length l) no_pair),
     )
 
 pub add_edge-requires-clause-few_columns : goal.add_edge-requires-clause-few_columns
 add_edge-requires-clause-few_columns c =
-    let width = width-so-far (NodeNo × NodeNo) file.Edges (ends_of_row c.args.ids.now.keys) 2 (λ kinds. edge_fault kinds c.args.ids.now.keys) (kinds_of c.args.columns) _ _ _ _ c.loop-cells.invariant.1 in
+    let width = width-waiting c.args.ids.now.keys (kinds_of c.args.columns) _ _ _ _ _ c.loop-cells.invariant.1 in
     omega (arith, width, length-map c.args.columns (λ (k : Column). k.kind), c.requires.few_columns)
-
-pub returns-in-Err-clause-told : goal.returns-in-Err-clause-told
-returns-in-Err-clause-told c =
-    let row = fields_of c.row.result.now in
-    let read : left_of c.loop-cells.rows.reader ≡ given true (fields_of c.advance.new.self.row) (left_of c.advance.new.self.reader) = rw c.if-branch.true at c.in_ok-advance.ensures.row in
-    let l : left_of c.loop-cells.rows.reader ≡ given true row (left_of c.advance.new.self.reader) = read ∙ ap (λ r. given true (fields_of r) (left_of c.advance.new.self.reader)) (sym c.row.ensures) in
-    let at : c.of_record.result ≡ fault_at file.Edges (length c.loop-cells.ends + 2) c.in-Err.refusal = c.of_record.ensures ∙ ap (λ n. fault_at file.Edges (n + 2) c.in-Err.refusal) c.len.ensures in
-    rw at (refused-at (NodeNo × NodeNo) file.Edges (ends_of_row c.args.ids.now.keys) 2 (λ kinds. edge_fault kinds c.args.ids.now.keys) (kinds_of c.args.columns) _ _ _ row _ c.loop-cells.cells.items c.in-Err.refusal c.loop-cells.invariant.1 l c.in-Err.ensures.told)
 
 pub loop-cells-preserved : goal.loop-cells-preserved
 loop-cells-preserved c =
     let row = fields_of c.row.result.now in
     let read : left_of c.loop-cells.rows.reader ≡ given true (fields_of c.advance.new.self.row) (left_of c.advance.new.self.reader) = rw c.if-branch.true at c.in_ok-advance.ensures.row in
-    let l : left_of c.loop-cells.rows.reader ≡ given true row (left_of c.advance.new.self.reader) = read ∙ ap (λ r. given true (fields_of r) (left_of c.advance.new.self.reader)) (sym c.row.ensures) in
-    let told : edge_fault (kinds_of c.args.columns) c.args.ids.now.keys c.loop-cells.ends row ≡ None =
-    ap (λ k. edge_fault k c.args.ids.now.keys c.loop-cells.ends row) (sym (kinds-so-far (NodeNo × NodeNo) file.Edges (ends_of_row c.args.ids.now.keys) 2 (λ kinds. edge_fault kinds c.args.ids.now.keys) (kinds_of c.args.columns) _ _ _ _ c.loop-cells.invariant.1)) ∙ c.in_default.ensures.told in
-    let few = few-edges (kinds_of c.args.columns) c.args.ids.now.keys c.loop-cells.ends row told in (
+    let l : left_of c.loop-cells.rows.reader ≡ given true row (left_of c.advance.new.self.reader) = read ∙ ap (λ r. given true (fields_of r) (left_of c.advance.new.self.reader)) (sym c.row.ensures) in (
       c.in_ok-advance.ensures.ready,
-      more-so-far (NodeNo × NodeNo) file.Edges (ends_of_row c.args.ids.now.keys) 2 (λ kinds. edge_fault kinds c.args.ids.now.keys) (kinds_of c.args.columns) _ _ _ row _ _ c.loop-cells.cells.items _ c.loop-cells.invariant.1 l c.in_default.ensures.told c.in_default.ensures.ends c.in_default.ensures.cells,
-      omega (arith, few, ap (λ (l : List (NodeNo × NodeNo)). length l) c.in_default.ensures.ends, length-append c.loop-cells.ends (ends_of_row c.args.ids.now.keys row ∷ [])),
+      more-waits c.args.ids.now.keys (kinds_of c.args.columns) _ _ _ row _ _ _ c.loop-cells.invariant.1 l _ _ _ c.in_ok-add_edge.ensures.waits c.in_ok-add_edge.ensures.ends c.in_ok-add_edge.ensures.cells,
+      c.in_ok-add_edge.ensures.few,
     )
+
+pub returns-in_err-add_edge-clause-told : goal.returns-in_err-add_edge-clause-told
+returns-in_err-add_edge-clause-told c =
+    let row = fields_of c.row.result.now in
+    let read : left_of c.loop-cells.rows.reader ≡ given true (fields_of c.advance.new.self.row) (left_of c.advance.new.self.reader) = rw c.if-branch.true at c.in_ok-advance.ensures.row in
+    let l : left_of c.loop-cells.rows.reader ≡ given true row (left_of c.advance.new.self.reader) = read ∙ ap (λ r. given true (fields_of r) (left_of c.advance.new.self.reader)) (sym c.row.ensures) in
+    let p = err_from_is_err_and c.from_residual-in_err-add_edge.result c.from_residual-in_err-add_edge.ensures.1 in
+    rw (p.1, p.2) (stops-by-row c.args.ids.now.keys (kinds_of c.args.columns) _ _ _ row _ _ _ c.loop-cells.invariant.1 l _ c.in_err-add_edge.ensures.told)
