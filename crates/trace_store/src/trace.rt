@@ -3,9 +3,11 @@
 ghost use Rattle.std.specs.Prelude.{◌≡◌, [], ◌++◌, OnOk, OnErr, IsTrue, if◌then◌else◌};
 ghost use Rattle.std.specs.List.{Contains};
 ghost use Rattle.std.specs.List.Sorted.{IsStrictlySortedBy};
+ghost use Rattle.std.specs.Ordering.{is_eq};
 ghost use Rattle.weighted.specs.Alike.{Alike};
 ghost use Rattle.weighted.specs.Batches.{IsBatch};
 ghost use Rattle.weighted.specs.Normal.{normal};
+ghost use Rattle.weighted.specs.SumLaws.{filtered};
 ghost use Rattle.weighted.specs.WordLaws.{mapped};
 ghost use Rattle.trace_store.specs.Traces.{IsTimeOf, accumulated, at_time, later, trace_cmp, values_of};
 
@@ -84,6 +86,15 @@ impl<K: Record, V: Record, T: Time> Trace<K, V, T> {
         push_values(&mut values, entries, &t)?;
         *into = Batch::from_sorted(values).into_entries();
         Ok(())
+    }
+
+    /// The entries of a key, lent: its values at their times, in the order of values and times, each with its weight. It
+    /// takes time in proportion to the logarithm of the number of all entries and to the number of those of the key, and
+    /// no memory.
+    pub fn entries_of(&self, key: K) -> &[(((K, V), T), Weight)]
+        ensures { result.now ≡ filtered (λ r. is_eq (K.cmp r.0.0 key)) self.now }
+    {
+        entries_of(self.entries.as_slice(), &key)
     }
 
     /// Replaces what is in `into` by the times at which some value of a key has a weight, each once, rising in their
