@@ -5,7 +5,7 @@ use Rattle.surge_outside.specs.Held.{file_at}
 use Rattle.graph_model.specs.GraphData.{GraphData}
 use Rattle.graph_loader.specs.DataFiles.{graph_of}
 use Rattle.graph_loader.specs.declared.fault.DataFault.{DataFault}
-use Rattle.gvdl_syntax.specs.declared.tree.Script.{Script}
+use Rattle.gvdl_tree.specs.declared.script.Script.{Script}
 use Rattle.vertex_lang.specs.Expressions.{Answer}
 use Rattle.surge_cli.specs.declared.status.Status.{Status}
 use Rattle.surge_cli.specs.declared.status.Status.TheVariants as status

@@ -6,8 +6,8 @@ use Rattle.std.proofs.Common.{arith}
 use Rattle.surge_outside.specs.Counts.{HasRisen}
 use Rattle.surge_outside.specs.Held.{file_at}
 use Rattle.graph_model.specs.GraphData.{GraphData}
-use Rattle.gvdl_syntax.specs.declared.tree.Script.{Script}
-use Rattle.gvdl_syntax.specs.Script.{IsScript}
+use Rattle.gvdl_tree.specs.declared.script.Script.{Script}
+use Rattle.gvdl_parser.specs.Script.{IsScript}
 use Rattle.surge_cli.specs.declared.status.FileRole.{FileRole}
 use Rattle.surge_cli.specs.declared.status.FileRole.TheVariants as role
 use Rattle.surge_cli.specs.declared.status.Unbuilt.{Unbuilt}

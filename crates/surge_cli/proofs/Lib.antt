@@ -1,6 +1,7 @@
 pub mod CommandLine
 pub mod Fronts
 pub mod Folds
+pub mod Rules
 pub mod Growing
 pub mod Options
 pub mod ViewEdges

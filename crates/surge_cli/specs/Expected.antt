@@ -9,8 +9,8 @@ use Rattle.graph_loader.specs.declared.fault.DataFile.{DataFile}
 use Rattle.graph_loader.specs.declared.fault.DataFile.TheVariants as file
 use Rattle.graph_loader.specs.declared.fault.DataKind.TheVariants as wrong
 use Rattle.graph_loader.specs.declared.fault.DataFault.{DataFault}
-use Rattle.gvdl_syntax.specs.declared.tree.Script.{Script}
-use Rattle.gvdl_syntax.specs.Script.{IsScript}
+use Rattle.gvdl_tree.specs.declared.script.Script.{Script}
+use Rattle.gvdl_parser.specs.Script.{IsScript}
 use Rattle.surge_cli.specs.declared.status.FileRole.TheVariants as role
 use Rattle.surge_cli.specs.declared.status.Unbuilt.TheVariants as unbuilt
 use Rattle.surge_cli.specs.declared.status.Status.{Status}

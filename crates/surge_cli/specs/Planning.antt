@@ -1,26 +1,31 @@
--- The plan of a script against a graph: what is run, where no statement has a fault.
-use Rattle.std.specs.Prelude.{◌≡◌, ℕ, ℤ, ◌+◌, Bool, true, false, ◌&&◌, not, nat_le, if◌then◌else◌, List, [], ◌∷◌, ◌++◌, length, map, Option, Some, None, option_map, codes, bytes_eq}
+-- The plan of a script against a graph: what is run, where the script is of the form that is built so far and no statement
+-- has a fault. That form is one collection on the graph, whose views are bounded by comparisons of an edge property with a
+-- number, and one run of `hops` on it, within a number of rounds. Every other script has no plan.
+use Rattle.std.specs.Prelude.{ℕ, ℤ, pos, int_le, ◌+◌, Bool, true, false, ◌&&◌, not, nat_le, if◌then◌else◌, List, [], ◌∷◌, ◌++◌, length, map, Option, Some, None, option_map, codes, bytes_eq}
 use Rattle.std.specs.List.{list_any}
+use Rattle.std.specs.Option.{is_none}
 use Rattle.std.specs.Fmt.{signed_decimal}
 use Rattle.graph_model.specs.GraphData.{GraphData}
 use Rattle.graph_model.specs.declared.cell.Kind.{Kind}
 use Rattle.graph_model.specs.declared.cell.Kind.TheVariants as kind
 use Rattle.graph_model.specs.declared.cell.Column.{Column}
-use Rattle.gvdl_syntax.specs.declared.tree.Cmp.{Cmp}
-use Rattle.gvdl_syntax.specs.declared.tree.Operand.{Operand}
-use Rattle.gvdl_syntax.specs.declared.tree.Operand.TheVariants as operand
-use Rattle.gvdl_syntax.specs.declared.tree.PredTree.{PredTree}
-use Rattle.gvdl_syntax.specs.declared.tree.PredTree.TheOpen.{PredTree-F}
-use Rattle.gvdl_syntax.specs.declared.tree.PredTree.TheFolds.{fold-PredTree}
-use Rattle.gvdl_syntax.specs.declared.tree.Item.{Item}
-use Rattle.gvdl_syntax.specs.declared.tree.ItemBody.{ItemBody}
-use Rattle.gvdl_syntax.specs.declared.tree.ItemBody.TheVariants as body
-use Rattle.gvdl_syntax.specs.declared.tree.Call.{Call}
-use Rattle.gvdl_syntax.specs.declared.tree.Arg.{Arg}
-use Rattle.gvdl_syntax.specs.declared.tree.Arg.TheVariants as arg
-use Rattle.gvdl_syntax.specs.declared.tree.Statement.{Statement}
-use Rattle.gvdl_syntax.specs.declared.tree.Statement.TheVariants as statement
-use Rattle.gvdl_syntax.specs.declared.tree.Script.{Script}
+use Rattle.gvdl_tree.specs.declared.predicate.Cmp.{Cmp}
+use Rattle.gvdl_tree.specs.declared.predicate.Operand.{Operand}
+use Rattle.gvdl_tree.specs.declared.predicate.Operand.TheVariants as operand
+use Rattle.gvdl_tree.specs.declared.predicate.PredTree.{PredTree}
+use Rattle.gvdl_tree.specs.declared.predicate.PredTree.TheOpen.{PredTree-F}
+use Rattle.gvdl_tree.specs.declared.predicate.PredTree.TheViews.{out-PredTree}
+use Rattle.gvdl_tree.specs.declared.script.Item.{Item}
+use Rattle.gvdl_tree.specs.declared.script.ItemBody.{ItemBody}
+use Rattle.gvdl_tree.specs.declared.script.ItemBody.TheVariants as body
+use Rattle.gvdl_tree.specs.declared.script.Call.{Call}
+use Rattle.gvdl_tree.specs.declared.script.Arg.{Arg}
+use Rattle.gvdl_tree.specs.declared.script.Arg.TheVariants as arg
+use Rattle.gvdl_tree.specs.declared.script.OrderWord.{OrderWord}
+use Rattle.gvdl_tree.specs.declared.script.SplitWord.{SplitWord}
+use Rattle.gvdl_tree.specs.declared.script.Statement.{Statement}
+use Rattle.gvdl_tree.specs.declared.script.Statement.TheVariants as statement
+use Rattle.gvdl_tree.specs.declared.script.Script.{Script}
 use Rattle.vertex_lang.specs.declared.lone.Rounds.TheVariants as rounds
 use Rattle.surge_cli.specs.declared.predicate.Place.{Place}
 use Rattle.surge_cli.specs.declared.predicate.Place.TheVariants as place
@@ -68,40 +73,61 @@ abbrev pub column_from : ℕ → List Column → List ℕ → Option ℕ
 column_from n [] name = None
 column_from n (column ∷ columns) name = if bytes_eq column.name name then number_column n column.kind else column_from (n + 1) columns name
 
-abbrev pub checked_place : List Column → Operand → Option Place
-checked_place columns (operand.Number z) = Some (place.Number z)
-checked_place columns (operand.Edge property) = option_map (λ n. place.Edge n) (column_from 0 columns property)
+-- a number that is not negative
+abbrev pub plain_number : ℤ → Option ℤ
+plain_number z = if int_le (pos 0) z then Some z else None
+
+-- the left side is a property of the edge
+abbrev pub left_place : List Column → Operand → Option Place
+left_place columns (operand.Edge property) = option_map (λ n. place.Edge n) (column_from 0 columns property)
+left_place columns _ = None
+
+-- the right side is a number
+abbrev pub right_place : Operand → Option Place
+right_place (operand.Number z) = option_map (λ n. place.Number n) (plain_number z)
+right_place _ = None
 
 abbrev pub checked_comparison : List Column → Operand → Cmp → Operand → Option Pred
 checked_comparison columns a sign b = do
-  first ← checked_place columns a
-  second ← checked_place columns b
+  first ← left_place columns a
+  second ← right_place b
   Some (pred.Compare first sign second)
 
-abbrev pub checked_of : List Column → PredTree-F (Option Pred) → Option Pred
-checked_of columns (PredTree-F.Or members) = option_map (λ ps. pred.Or ps) (all_some members)
-checked_of columns (PredTree-F.Compare a sign b) = checked_comparison columns a sign b
+-- a member of a chain is a comparison
+abbrev pub member_of : List Column → PredTree-F PredTree → Option Pred
+member_of columns (PredTree-F.Compare a sign b) = checked_comparison columns a sign b
+member_of columns _ = None
+
+abbrev pub checked_member : List Column → PredTree → Option Pred
+checked_member columns tree = member_of columns (out-PredTree tree)
+
+-- a predicate is comparisons with `or` between each two, or one alone
+abbrev pub rule_of : List Column → PredTree-F PredTree → Option Pred
+rule_of columns (PredTree-F.Or members) = option_map (λ ps. pred.Or ps) (all_some (map (checked_member columns) members))
+rule_of columns one = member_of columns one
 
 -- the predicate with its properties as columns, where each is a column
 unfoldable pub checked : List Column → PredTree → Option Pred
-checked columns = fold-PredTree (Option Pred) (checked_of columns)
+checked columns tree = rule_of columns (out-PredTree tree)
 
 -- ---- statements
 
-abbrev pub rule_of : ItemBody → PredTree
-rule_of (body.Rule tree) = tree
+-- an item is a predicate
+abbrev pub checked_body : List Column → ItemBody → Option Pred
+checked_body columns (body.Rule tree) = checked columns tree
+checked_body columns (body.Window property first last width step) = None
 
 abbrev pub planned_view : List Column → Item → Option ViewPlan
-planned_view columns item = option_map (λ rule. record { name = item.name; rule = rule }) (checked columns (rule_of item.body))
+planned_view columns item = option_map (λ rule. record { name = item.name; rule = rule }) (checked_body columns item.body)
 
 -- at most 64 views, of different names
 abbrev pub are_views : List Item → Bool
 are_views items = nat_le (length items) 64 && have_distinct_names items
 
--- the only argument of a call of `hops`
+-- the only argument of a call of `hops`, a number
 abbrev pub source_from : Bool → List Arg → Option ℤ
 source_from false args = None
-source_from true (arg.Number z ∷ []) = Some z
+source_from true (arg.Number z ∷ []) = plain_number z
 source_from true _ = None
 
 abbrev pub source_of : Call → Option ℤ
@@ -129,9 +155,13 @@ planned_run columns name items call n = do
   views ← all_some (map (planned_view columns) items)
   Some (planned name views source n)
 
+-- a run within a number of rounds, and with no word on its order, its split and its keeping
+abbrev pub is_plain : Bool → Option OrderWord → Option SplitWord → Option (List ℕ) → Bool
+is_plain within order split keep = within && (is_none order && (is_none split && is_none keep))
+
 abbrev pub plan_of : List ℕ → List Column → List Statement → Option Plan
-plan_of graph columns (statement.Collection name base items ∷ statement.Run call target n ∷ []) =
-    if are_names graph name base target && (are_views items && are_rounds n) then planned_run columns name items call n else None
+plan_of graph columns (statement.Collection name base items ∷ statement.Run call target within n order split keep ∷ []) =
+    if is_plain within order split keep && (are_names graph name base target && (are_views items && are_rounds n)) then planned_run columns name items call n else None
 plan_of graph columns _ = None
 
 abbrev pub plan : Script → GraphData → Option Plan

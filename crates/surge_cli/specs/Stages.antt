@@ -4,8 +4,8 @@ use Rattle.surge_outside.specs.Counts.{HasRisen}
 use Rattle.graph_model.specs.GraphData.{GraphData}
 use Rattle.graph_loader.specs.DataFiles.{graph_of}
 use Rattle.graph_loader.specs.declared.fault.DataFile.TheVariants as file
-use Rattle.gvdl_syntax.specs.declared.tree.Script.{Script}
-use Rattle.gvdl_syntax.specs.Script.{IsScript}
+use Rattle.gvdl_tree.specs.declared.script.Script.{Script}
+use Rattle.gvdl_parser.specs.Script.{IsScript}
 use Rattle.surge_cli.specs.declared.status.FileRole.{FileRole}
 use Rattle.surge_cli.specs.declared.status.FileRole.TheVariants as role
 use Rattle.surge_cli.specs.declared.status.Unbuilt.TheVariants as unbuilt

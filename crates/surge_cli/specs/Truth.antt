@@ -1,10 +1,10 @@
 -- The truth of a predicate at an edge, by cases on its tree.
-use Rattle.std.specs.Prelude.{◌≡◌, ℕ, ℤ, int_lt, int_le, nat_lt, Bool, true, false, not, if◌then◌else◌, List, length}
+use Rattle.std.specs.Prelude.{ℕ, ℤ, int_lt, int_le, nat_lt, Bool, false, not, if◌then◌else◌, length}
 use Rattle.std.specs.Ordering.{int_eq}
 use Rattle.std.specs.List.{list_any}
 use Rattle.graph_model.specs.GraphData.{GraphData, Cell, edge_cell_of}
-use Rattle.gvdl_syntax.specs.declared.tree.Cmp.{Cmp}
-use Rattle.gvdl_syntax.specs.declared.tree.Cmp.TheVariants as cmp
+use Rattle.gvdl_tree.specs.declared.predicate.Cmp.{Cmp}
+use Rattle.gvdl_tree.specs.declared.predicate.Cmp.TheVariants as cmp
 use Rattle.surge_cli.specs.declared.predicate.Place.{Place}
 use Rattle.surge_cli.specs.declared.predicate.Place.TheVariants as place
 use Rattle.surge_cli.specs.declared.predicate.Pred.{Pred}

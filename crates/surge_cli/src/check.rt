@@ -1,16 +1,21 @@
 //! Checks a script against its graph.
+//!
+//! So far a script has a plan only where it is of one form: one collection on the graph, whose predicates are comparisons of
+//! an edge property with a number, joined by `or`, and one run of `hops` on it, within a number of rounds.
 
 ghost use Rattle.std.specs.Prelude.{◌≡◌, ◌&&◌, not, nat_le, map, length, bytes_eq, codes, IfOk, IfSome, IsTrue, ℤ, ◌∷◌};
 ghost use Rattle.std.specs.List.{list_any};
 ghost use Rattle.surge_cli.specs.Output.{IsPlan};
 ghost use Rattle.surge_cli.specs.HopsPlan.{IsHopsPlan};
-ghost use Rattle.surge_cli.specs.Planning.{is_among, have_distinct_names, built_in, number_column, column_from, checked_place, checked_comparison, checked, all_some, planned_view, are_views, source_of, are_rounds, call_text, are_names, planned_run, plan};
+ghost use Rattle.surge_cli.specs.Planning.{is_among, have_distinct_names, built_in, number_column, column_from, plain_number, left_place, right_place, checked_comparison, checked_member, checked, checked_body, all_some, planned_view, are_views, source_of, are_rounds, call_text, are_names, planned_run, is_plain, plan};
 
 use crate::hops::hops;
 use crate::plan::{Plan, ViewPlan};
 use crate::predicate::{Place, Pred};
 use graph_model::{Column, Graph, Kind};
-use gvdl_syntax::{Arg, Call, Cmp, Item, ItemBody, Operand, PredTree, Script, Statement};
+use gvdl_tree::{
+    Arg, Call, Cmp, Item, ItemBody, Operand, OrderWord, PredTree, Script, SplitWord, Statement,
+};
 use std::alloc::Global;
 use surge_outside::{List, NoMemory, Text};
 use vertex_lang::Rounds;
@@ -94,15 +99,35 @@ fn column_of(columns: &[Column], name: &str) -> Option<usize>
     None
 }
 
-fn checked_place(columns: &[Column], operand: &Operand) -> Option<Place>
-    ensures { result ≡ checked_place columns.now operand.now }
+fn plain_number(number: i64) -> Option<i64>
+    ensures { result ≡ plain_number number }
+{
+    if number >= 0 { Some(number) } else { None }
+}
+
+// The left side of a comparison: a property of the edge, as a column of numbers.
+fn left_place(columns: &[Column], operand: &Operand) -> Option<Place>
+    ensures { result ≡ left_place columns.now operand.now }
 {
     match operand {
-        Operand::Number(number) => Some(Place::Number(*number)),
         Operand::Edge(property) => match column_of(columns, property.as_str()) {
             Some(place) => Some(Place::Edge(place)),
             None => None,
         },
+        _ => None,
+    }
+}
+
+// The right side of a comparison: a number.
+fn right_place(operand: &Operand) -> Option<Place>
+    ensures { result ≡ right_place operand.now }
+{
+    match operand {
+        Operand::Number(number) => match plain_number(*number) {
+            Some(number) => Some(Place::Number(number)),
+            None => None,
+        },
+        _ => None,
     }
 }
 
@@ -114,8 +139,8 @@ fn checked_comparison(
 ) -> Option<Pred>
     ensures { result ≡ checked_comparison columns.now first.now sign second.now }
 {
-    match checked_place(columns, first) {
-        Some(first) => match checked_place(columns, second) {
+    match left_place(columns, first) {
+        Some(first) => match right_place(second) {
             Some(second) => Some(Pred::Compare(first, sign, second)),
             None => None,
         },
@@ -123,40 +148,71 @@ fn checked_comparison(
     }
 }
 
-// The predicate with its properties as columns, or none where a property is no column.
-#[cycle(checking)]
-fn checked(alloc: Global, columns: &[Column], tree: &PredTree) -> Result<Option<Pred>, NoMemory>
-    ensures { IfOk result (λ pred. pred ≡ checked columns.now tree.now) }
+// A predicate that is a comparison.
+fn checked_member(columns: &[Column], tree: &PredTree) -> Option<Pred>
+    ensures { result ≡ checked_member columns.now tree.now }
 {
     match tree {
-        PredTree::Or(members) => {
-            match all_checked(alloc, columns, members.as_slice())? {
-                Some(members) => Ok(Some(Pred::Or(members))),
-                None => Ok(None),
-            }
-        }
-        PredTree::Compare(first, sign, second) => {
-            Ok(checked_comparison(columns, first, *sign, second))
-        }
+        PredTree::Or(_) => None,
+        PredTree::And(_) => None,
+        PredTree::Not(_) => None,
+        PredTree::Constant(_) => None,
+        PredTree::Compare(first, sign, second) => checked_comparison(columns, first, *sign, second),
+        PredTree::Missing(_) => None,
     }
 }
 
-#[cycle(checking)]
-fn all_checked(
+// The members of a chain, each a comparison.
+fn checked_members(
     alloc: Global,
     columns: &[Column],
     trees: &[PredTree],
 ) -> Result<Option<List<Pred>>, NoMemory>
-    ensures { IfOk result (λ preds. preds ≡ all_some (map (checked columns.now) trees.now)) }
+    ensures { IfOk result (λ preds. preds ≡ all_some (map (checked_member columns.now) trees.now)) }
 {
     let mut preds = List::new(alloc);
     for tree in trees {
-        match checked(alloc, columns, tree)? {
+        match checked_member(columns, tree) {
             Some(pred) => preds.push(pred)?,
             None => return Ok(None),
         }
     }
     Ok(Some(preds))
+}
+
+// The predicate with its properties as columns, or none where it is of another form or a property is no column.
+#[tactic(auto, unfolding(crate::specs::Planning::checked))]
+fn checked(alloc: Global, columns: &[Column], tree: &PredTree) -> Result<Option<Pred>, NoMemory>
+    ensures { IfOk result (λ pred. pred ≡ checked columns.now tree.now) }
+{
+    match tree {
+        PredTree::Or(members) => {
+            match checked_members(alloc, columns, members.as_slice())? {
+                Some(members) => Ok(Some(Pred::Or(members))),
+                None => Ok(None),
+            }
+        }
+        PredTree::And(_) => Ok(None),
+        PredTree::Not(_) => Ok(None),
+        PredTree::Constant(_) => Ok(None),
+        PredTree::Compare(first, sign, second) => {
+            Ok(checked_comparison(columns, first, *sign, second))
+        }
+        PredTree::Missing(_) => Ok(None),
+    }
+}
+
+fn checked_body(
+    alloc: Global,
+    columns: &[Column],
+    body: &ItemBody,
+) -> Result<Option<Pred>, NoMemory>
+    ensures { IfOk result (λ pred. pred ≡ checked_body columns.now body.now) }
+{
+    match body {
+        ItemBody::Rule(tree) => checked(alloc, columns, tree),
+        ItemBody::Window { .. } => Ok(None),
+    }
 }
 
 fn planned_view(
@@ -166,8 +222,7 @@ fn planned_view(
 ) -> Result<Option<ViewPlan>, NoMemory>
     ensures { IfOk result (λ view. view ≡ planned_view columns.now item.now) }
 {
-    let ItemBody::Rule(tree) = &item.body;
-    match checked(alloc, columns, tree)? {
+    match checked_body(alloc, columns, &item.body)? {
         Some(rule) => {
             let name = copied(alloc, &item.name)?;
             Ok(Some(ViewPlan { name, rule }))
@@ -193,7 +248,7 @@ fn planned_views(
     Ok(Some(views))
 }
 
-// The argument of a call of `hops`.
+// The argument of a call of `hops`, where it is a number.
 fn source_of(call: &Call) -> Option<i64>
     ensures { result ≡ source_of call.now }
 {
@@ -201,7 +256,7 @@ fn source_of(call: &Call) -> Option<i64>
         return None;
     }
     match call.args.as_slice() {
-        [Arg::Number(source)] => Some(*source),
+        [Arg::Number(source)] => plain_number(*source),
         _ => None,
     }
 }
@@ -262,7 +317,19 @@ fn planned(
     }
 }
 
-/// The plan of a script against its graph, or none where a statement has a fault.
+// Whether a run is within a number of rounds, and says nothing of its order, its split and its keeping.
+fn is_plain(
+    within: bool,
+    order: Option<OrderWord>,
+    split: Option<SplitWord>,
+    keep: &Option<Text>,
+) -> bool
+    ensures { result ≡ is_plain within order split keep.now }
+{
+    within && order.is_none() && split.is_none() && keep.is_none()
+}
+
+/// The plan of a script against its graph, or none where it is of another form or a statement has a fault.
 pub(crate) fn check(alloc: Global, script: &Script, graph: &Graph) -> Result<Option<Plan>, NoMemory>
     ensures plan { IfOk result (λ p. p ≡ plan script.now graph.now) }
     ensures fits { IfOk result (λ p. IfSome p (IsPlan graph.now)) }
@@ -273,9 +340,16 @@ pub(crate) fn check(alloc: Global, script: &Script, graph: &Graph) -> Result<Opt
             Statement::Run {
                 call,
                 target,
+                within,
                 number,
+                order,
+                split,
+                keep,
             },
         ] => {
+            if !is_plain(*within, *order, *split, keep) {
+                return Ok(None);
+            }
             if !check_names(
                 script.graph.as_str(),
                 name.as_str(),

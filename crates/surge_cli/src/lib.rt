@@ -1,6 +1,6 @@
 //! The program as one call, from the bytes of three files to the bytes of its tables.
 //!
-//! It stands on the rooms that read (`graph_loader`, `gvdl_syntax`), on the one that runs (`vertex_lang`), on the ends of
+//! It stands on the rooms that read (`graph_loader`, `gvdl_parser`), on the one that runs (`vertex_lang`), on the ends of
 //! the program (`surge_outside`) and on `clap`, which reads the words. Its public call is [`surge`], which the program's
 //! `main` makes with the real ends. Inside, in the order of the walk: the words, whole files within their limits, the
 //! check of a script against its graph, the truth of predicates, the program `hops`, the text of tables, the session that

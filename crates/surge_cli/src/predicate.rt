@@ -6,7 +6,7 @@ ghost use Rattle.graph_model.specs.GraphData.{cell_of};
 ghost use Rattle.surge_cli.specs.Truth.{truth, place_cell, cells_compare, numbers_compare};
 
 use graph_model::{CellRef, EdgeNo, Graph};
-use gvdl_syntax::Cmp;
+use gvdl_tree::Cmp;
 use surge_outside::List;
 
 /// A side of a comparison: a number, or the cell of a column of the edges.

@@ -16,7 +16,8 @@ use crate::status::{FileRole, Status, Unbuilt};
 use crate::words::{Mode, Request, Source, read_words};
 use graph_loader::{DataFault, DataFile, DataKind, LoadFault, load};
 use graph_model::Graph;
-use gvdl_syntax::{ParseFault, Script, parse};
+use gvdl_parser::{ParseFault, parse};
+use gvdl_tree::Script;
 use std::alloc::Global;
 use surge_outside::{Files, NoMemory, Text, Trouble};
 
@@ -86,7 +87,7 @@ fn parse_script(alloc: Global, text: &[u8]) -> Result<Script, Status>
 {
     match parse(alloc, text) {
         Ok(script) => Ok(script),
-        Err(ParseFault::NotBuilt) => Err(Status::NotBuilt(Unbuilt::Script)),
+        Err(ParseFault::Fault(_)) => Err(Status::NotBuilt(Unbuilt::Script)),
         Err(ParseFault::NoMemory) => Err(Status::NoMemory),
     }
 }

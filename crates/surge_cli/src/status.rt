@@ -22,7 +22,7 @@ pub enum FileRole {
 pub enum Unbuilt {
     /// The words of the command line ask for a sample, for turns, or for a mode other than `run`.
     Words,
-    /// The script: too large, of another form, or with a fault against its graph.
+    /// The script: too large, with a fault in its text, of another form, or with a fault against its graph.
     Script,
 }
 

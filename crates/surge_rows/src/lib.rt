@@ -12,12 +12,14 @@ use std::sync::ledger::{Blank, Ledger};
 use surge_cli::{Status, surge};
 use surge_outside::{List, MemoryFiles, MemorySink, Steps, Text};
 
-/// What the files in memory hold, where they are there.
+/// What the files in memory hold, where they are there, and the names of the data files.
 #[derive(Clone, Copy)]
 pub struct Contents<'a> {
-    pub script: Option<&'a str>,
+    pub script: Option<&'a [u8]>,
     pub nodes: Option<&'a [u8]>,
     pub edges: Option<&'a [u8]>,
+    pub nodes_name: &'a str,
+    pub edges_name: &'a str,
 }
 
 /// What a run left: its answer, and what was written.
@@ -59,14 +61,12 @@ pub fn failing(alloc: Global, call: Option<u64>) -> Result<List<u64>, AllocError
     Ok(List::from_vec(calls))
 }
 
-/// The script `s` and the data files `n4.csv` and `e1.csv`, those that are there.
+/// The script `s` and the data files, those that are there.
 pub fn held(alloc: Global, files: &Contents<'_>) -> Result<List<(Text, List<u8>)>, AllocError> {
     let mut held = Vec::new(alloc);
-    if let Some(script) = files.script {
-        hold(alloc, &mut held, "s", Some(script.as_bytes()))?;
-    }
-    hold(alloc, &mut held, "n4.csv", files.nodes)?;
-    hold(alloc, &mut held, "e1.csv", files.edges)?;
+    hold(alloc, &mut held, "s", files.script)?;
+    hold(alloc, &mut held, files.nodes_name, files.nodes)?;
+    hold(alloc, &mut held, files.edges_name, files.edges)?;
     Ok(List::from_vec(held))
 }
 

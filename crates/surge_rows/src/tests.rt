@@ -5,7 +5,11 @@ ghost use Rattle.std.specs.Prelude.{◌≡◌, ◌≤◌};
 mod command_line;
 mod data_files;
 mod first_path;
+mod graphs;
+mod language;
 mod large_files;
+mod predicates;
+mod script_form;
 
 use crate::{Contents, Ends, Left, run_memory};
 use std::marker::Brand;
@@ -36,12 +40,14 @@ fn row(rt: &HostRuntime, files: &Contents<'_>, ends: Ends) -> Result<Left, Fail>
     run(rt, &["surge", "--script", "s"], files, ends)
 }
 
-// All three files.
+// All three files, the data files under the names `n4.csv` and `e1.csv`.
 fn whole<'a>(script: &'a str, nodes: &'a str, edges: &'a str) -> Contents<'a> {
     Contents {
-        script: Some(script),
+        script: Some(script.as_bytes()),
         nodes: Some(nodes.as_bytes()),
         edges: Some(edges.as_bytes()),
+        nodes_name: "n4.csv",
+        edges_name: "e1.csv",
     }
 }
 

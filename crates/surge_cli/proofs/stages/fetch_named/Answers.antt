@@ -1,7 +1,7 @@
 -- A text that is refused is no script.
 use Rattle.std.proofs.Common.{List, ℕ, Option, Result, Ok, Err, subst, sym}
 use Rattle.std.specs.Prelude.{IfErr, Some}
-use Rattle.gvdl_syntax.specs.declared.tree.Script.{Script}
+use Rattle.gvdl_tree.specs.declared.script.Script.{Script}
 use Rattle.surge_cli.specs.declared.status.FileRole.TheVariants as role
 use Rattle.surge_cli.specs.declared.status.Status.{Status}
 use Rattle.surge_cli.specs.Expected.{Held, ExpectsOfName}

@@ -1,0 +1,95 @@
+//! The examples of `docs/LANGUAGE.md`: each is a script, or has the fault that stands beside it.
+
+use gvdl_parser::{ParseFault, ScriptFault, parse};
+use std::alloc::Global;
+use std::test::Fail;
+
+const LOAD: &str = "load graph G nodes 'nodes.csv' edges 'edges.csv';\n";
+
+fn is_script(alloc: Global, text: &str) -> bool {
+    text.len() < 10_000 && parse(alloc, text.as_bytes()).is_ok()
+}
+
+#[test]
+fn the_example_of_each_statement_is_read(rt: HostRuntime) -> Result<(), Fail> {
+    for statement in [
+        "",
+        "create view Long on G edges where duration > 10 and not toll = true;",
+        "create view collection C on G [short: duration <= 10], [long: duration > 10], [all: true];",
+        "create view collection Years on Long [w: window year from 2010 to 2019 width 5 step 1];",
+        "program outgoing { along in; start 0; send 1; gather count; update count; }",
+        "program cheapest(source, most) {\n    along out;\n    start if id = source then 0 else none;\n    send if value < most then value + edge.duration else none;\n    gather min;\n    update min(start, gathered);\n}\n",
+        "run hops(1) on C within 10 rounds;",
+        "run cheapest(1, 500) on C for 1 round order declared split every 5 keep as K;",
+        "run dist(1, \"travel time\") on C within 100 rounds order greedy split auto;",
+        "run wcc on C within 1000 rounds;",
+        "append to C [longest: duration >= 100];",
+        "show order C;",
+        "show work K;",
+    ] {
+        let text = format!(in rt.alloc(); "{LOAD}{statement}")?;
+        assert!(rt; is_script(rt.alloc(), text.as_str()), "at {statement}");
+    }
+    Ok(())
+}
+
+#[test]
+fn the_examples_of_predicates_and_expressions_are_read(rt: HostRuntime) -> Result<(), Fail> {
+    for statement in [
+        "create view v1 on G edges where not (y = 1 or \"or\" = 2) and true;",
+        "create view v2 on G edges where src.city = 'San Jose, CA' or dst.city is absent;",
+        "create view v3 on G edges where src.id != dst.id and toll = false and height >= -3;",
+        "program p(a) { along both; start node.size else id; send -value * 2 / outdeg; gather max; update gathered else (if value is none and count > 0 then a else start - 1); }",
+    ] {
+        let text = format!(in rt.alloc(); "{LOAD}{statement}")?;
+        assert!(rt; is_script(rt.alloc(), text.as_str()), "at {statement}");
+    }
+    Ok(())
+}
+
+// The name of a text's first fault, and its line and column.
+fn fault_of(alloc: Global, text: &str) -> (&'static str, u32, u32) {
+    if text.len() >= 10_000 {
+        return ("none", 0, 0);
+    }
+    match parse(alloc, text.as_bytes()) {
+        Err(ParseFault::Fault(ScriptFault::Syntax(line, column))) => ("Syntax", line, column),
+        Err(ParseFault::Fault(ScriptFault::NumberTooLarge(line, column))) => {
+            ("NumberTooLarge", line, column)
+        }
+        Err(ParseFault::Fault(ScriptFault::TooDeep(line, column))) => ("TooDeep", line, column),
+        _ => ("none", 0, 0),
+    }
+}
+
+// A view with 65 levels, on line 2.
+fn deep(alloc: Global) -> Result<String, Fail> {
+    let mut text = format!(in alloc; "{LOAD}create view v on G edges where ")?;
+    for _level in 0..65 {
+        text.push_str("not ")?;
+    }
+    text.push_str("true;")?;
+    Ok(text)
+}
+
+#[test]
+fn the_examples_of_faults_stand_at_their_places(rt: HostRuntime) -> Result<(), Fail> {
+    let deep = deep(rt.alloc())?;
+    let large = format!(in rt.alloc();
+        "{LOAD}run hops(1) on C within 9223372036854775808 rounds;"
+    )?;
+    let unnamed = format!(in rt.alloc(); "{LOAD}show order;")?;
+    for (text, kind, line, column) in [
+        ("load graph", "Syntax", 1, 11),
+        ("load graph G nodes 'n' edges 'e;", "Syntax", 1, 30),
+        (unnamed.as_str(), "Syntax", 2, 11),
+        (large.as_str(), "NumberTooLarge", 2, 25),
+        (deep.as_str(), "TooDeep", 2, 288),
+    ] {
+        let found = fault_of(rt.alloc(), text);
+        assert_eq!(rt; found.0, kind, "at {text}");
+        assert_eq!(rt; found.1, line, "at {text}");
+        assert_eq!(rt; found.2, column, "at {text}");
+    }
+    Ok(())
+}
