@@ -1,0 +1,5 @@
+pub mod Names
+pub mod Layout
+pub mod Canonical
+pub mod Pages
+pub mod Again
