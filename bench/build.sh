@@ -1,5 +1,6 @@
 #!/bin/sh
-# Builds a bench's program beside copies of the crates that it stands on, and prints where the program is.
+# Builds a bench's program beside copies of the crates that it stands on, and prints where the program is. A file
+# FUNCTION.antt.txt has what holds in that function's loops.
 # Called as: build.sh NAME 'CRATES THAT IT STANDS ON, LOWEST FIRST' 'PORTED CRATES'
 set -eu
 name=$1
@@ -22,6 +23,13 @@ for crate in $stands_on; do
 done
 echo "bench_$name: $stands_on $ported" >> "$work/crates.txt"
 cp "$top/bench/$name/main.rt.txt" "$work/crates/bench_$name/src/main.rt"
+for loops in "$top/bench/$name"/*.antt.txt; do
+    if [ -f "$loops" ]; then
+        function=$(basename "$loops" .antt.txt)
+        mkdir -p "$work/crates/bench_$name/proofs/$function"
+        cp "$loops" "$work/crates/bench_$name/proofs/$function/Invariants.antt"
+    fi
+done
 cd "$work/crates/bench_$name"
 rt run > "$work/built.txt" 2> "$work/build.log" || {
     tail -n 40 "$work/build.log" >&2

@@ -5,10 +5,8 @@ ghost use Rattle.std.specs.Prelude.{◌≡◌, ◌≤◌};
 mod command_line;
 mod data_files;
 mod first_path;
-mod graphs;
 mod language;
 mod large_files;
-mod predicates;
 mod script_form;
 
 use crate::{Contents, Ends, Left, run_memory};

@@ -194,3 +194,18 @@ fn weights_cancel(rt: HostRuntime) -> Result<(), Fail> {
     assert!(rt; never_comes(alloc, &trace, 1)?, "once both times are one");
     Ok(())
 }
+
+#[test]
+fn entries_of_a_key_are_lent_in_order(rt: HostRuntime) -> Result<(), Fail> {
+    let alloc = rt.alloc();
+    let trace = fed(alloc, Position(2), Position(5))?;
+    let wanted = [
+        (((1, 5), Position(5)), Weight(3)),
+        (((1, 7), Position(2)), Weight(1)),
+        (((1, 7), Position(5)), MINUS_ONE),
+        (((1, 8), Position(2)), Weight(2)),
+    ];
+    assert_eq!(rt; trace.entries_of(1), wanted.as_slice());
+    assert!(rt; trace.entries_of(3).is_empty());
+    Ok(())
+}

@@ -1,0 +1,6 @@
+mod Walks
+mod Pushing
+mod Ranges
+mod Keeping
+mod Settling
+mod Outcomes

@@ -1,0 +1,6 @@
+use Rattle.std.proofs.Common.{◌≡◌, ◌++◌, take}
+use Rattle.weighted.specs.WordLaws.{mapped}
+use Rattle.diff_reduce.proofs.evaluate.push_given.Given as goal
+
+abbrev pub invariant-loop-output : goal.invariant-loop-output
+invariant-loop-output g l = l.made.items ≡ l.fn.made.items ++ mapped (λ o. (l.key, o)) (take l.output-index l.given)

@@ -1,0 +1,4 @@
+//! Random runs. Each file has those of an operator.
+
+mod joins;
+mod reduces;

@@ -1,0 +1,154 @@
+//! Reduces at random times, alone and behind a join, against the same computed key by key from all that was fed.
+
+ghost use Rattle.std.specs.Prelude.{refl};
+ghost use Rattle.flow_rows.specs.Logic.{least_and_count};
+
+use super::joins::{NoCalls, PairByPair, Sides, TestJoin, Unequal};
+use crate::{Draws, Nested, Reference, run};
+use diff_join::Join;
+use diff_reduce::{KeyLogic, Reduce};
+use flow_core::Chain;
+use std::alloc::Global;
+use std::test::Fail;
+use surge_outside::{List, NoMemory};
+use weighted::{Batch, Weight};
+
+/// The least value of a key, as often as the key has values.
+#[derive(Drop)]
+struct LeastAndCount;
+
+impl KeyLogic<NoCalls> for LeastAndCount {
+    type Key = u32;
+
+    type Value = u32;
+
+    type Output = (u32, u64);
+
+    ghost gives = { λ _ k words. least_and_count words };
+
+    ghost nothing = { λ _ _. refl };
+
+    fn eval(
+        &self,
+        key: u32,
+        words: &[(u32, Weight)],
+        into: &mut List<((u32, u64), Weight)>,
+        updater: &mut NoCalls,
+    ) -> Result<(), NoMemory> {
+        if let Some((value, weight)) = words.first() {
+            into.push(((*value, weight.0), Weight(words.len() as u64)))?;
+        }
+        Ok(())
+    }
+}
+
+/// The same of each key, computed from all that was fed.
+#[derive(Drop)]
+struct KeyByKey;
+
+// The least entry of a key, and how many entries it has.
+fn entries_of(fed: &Batch<(u32, u32)>, key: u32) -> (Option<(u32, Weight)>, u64) {
+    let mut least = None;
+    let mut count = 0u64;
+    for ((k, value), weight) in fed.as_slice() {
+        if *k == key {
+            if least.is_none() {
+                least = Some((*value, *weight));
+            }
+            count = count.wrapping_add(1);
+        }
+    }
+    (least, count)
+}
+
+// What is made of the keys 0 to 3.
+fn by_key(alloc: Global, fed: &Batch<(u32, u32)>) -> Result<Batch<(u32, (u32, u64))>, NoMemory> {
+    let mut made = List::new(alloc);
+    for key in 0..4 {
+        if let (Some((value, weight)), count) = entries_of(fed, key) {
+            made.push(((key, (value, weight.0)), Weight(count)))?;
+        }
+    }
+    Batch::from_entries(made)
+}
+
+impl Reference for KeyByKey {
+    type Input = (u32, u32);
+
+    type Output = (u32, (u32, u64));
+
+    fn input(&self, draws: &mut Draws) -> (u32, u32) {
+        (draws.draw(3), draws.draw(4))
+    }
+
+    fn output(
+        &self,
+        alloc: Global,
+        fed: &Batch<(u32, u32)>,
+    ) -> Result<Batch<(u32, (u32, u64))>, NoMemory> {
+        by_key(alloc, fed)
+    }
+}
+
+/// A join and then a reduce of what it made.
+#[derive(Drop)]
+struct Both;
+
+impl Reference for Both {
+    type Input = Sides;
+
+    type Output = (u32, (u32, u64));
+
+    fn input(&self, draws: &mut Draws) -> Sides {
+        PairByPair.input(draws)
+    }
+
+    fn output(
+        &self,
+        alloc: Global,
+        fed: &Batch<Sides>,
+    ) -> Result<Batch<(u32, (u32, u64))>, NoMemory> {
+        by_key(alloc, &PairByPair.output(alloc, fed)?)
+    }
+}
+
+/// The reduce that is tested.
+type TestReduce = Reduce<LeastAndCount, Nested, NoCalls>;
+
+// How many steps a reduce takes from this seed, or None where it is wrong.
+fn steps_from(alloc: Global, seed: u64) -> Result<Option<usize>, NoMemory> {
+    let mut reduce: TestReduce = Reduce::new(alloc, LeastAndCount);
+    run(alloc, &mut reduce, &KeyByKey, seed, &mut NoCalls)
+}
+
+// The same of a reduce behind a join.
+fn steps_of_both(alloc: Global, seed: u64) -> Result<Option<usize>, NoMemory> {
+    let join: TestJoin = Join::new(alloc, Unequal);
+    let reduce: TestReduce = Reduce::new(alloc, LeastAndCount);
+    let mut chain = Chain::new(join, reduce);
+    run(alloc, &mut chain, &Both, seed, &mut NoCalls)
+}
+
+#[test]
+fn reduces_at_random_times(rt: HostRuntime) -> Result<(), Fail> {
+    let mut steps = 0usize;
+    for seed in 0..40 {
+        let taken = steps_from(rt.alloc(), seed)?;
+        assert!(rt; taken.is_some());
+        steps = steps.wrapping_add(taken.unwrap_or(0));
+    }
+    assert!(rt; steps > 200);
+    Ok(())
+}
+
+#[test]
+fn a_join_and_then_a_reduce_at_random_times(rt: HostRuntime) -> Result<(), Fail> {
+    let mut steps = 0usize;
+    for seed in 0..40 {
+        let taken = steps_of_both(rt.alloc(), seed)?;
+        assert!(rt; taken.is_some());
+        steps = steps.wrapping_add(taken.unwrap_or(0));
+    }
+    assert!(rt; steps > 200);
+    Ok(())
+}
