@@ -1,19 +1,24 @@
 -- How a run ends: what was printed, and what was reported.
-use Rattle.std.proofs.Common.{◌≡◌, ◌∙◌, ◌≤◌, ℕ, List, [], length, take, Option, Some, None, refl, sym, ap, subst, arith, inl, inr, append-nil}
-use Rattle.std.specs.Prelude.{IfSome, ◌⊎◌}
+use Rattle.std.proofs.Common.{◌≡◌, ◌∙◌, ℕ, List, length, Option, Some, None, Result, Ok, Err, refl, sym, ap, subst, arith, inl, inr}
+use Rattle.std.specs.Prelude.{IfSome, IfErr, ◌⊎◌}
 use Rattle.std.proofs.lemmas.List.{take_all}
 use Rattle.surge_outside.specs.Counts.{HasRisen}
 use Rattle.surge_outside.specs.Written.{appended, GrewByFront}
-use Rattle.graph_model.specs.GraphData.{GraphData}
 use Rattle.vertex_lang.specs.Expressions.{Answer}
-use Rattle.surge_cli.specs.declared.plan.Plan.{Plan}
+use Rattle.surge_cli.specs.declared.status.Unbuilt.TheVariants as unbuilt
 use Rattle.surge_cli.specs.declared.status.Status.{Status}
 use Rattle.surge_cli.specs.declared.status.Status.TheVariants as status
+use Rattle.surge_cli.specs.declared.words.Asked.{Asked}
+use Rattle.surge_cli.specs.declared.job.Job.{Job}
 use Rattle.surge_cli.specs.StatusText.{status_line}
+use Rattle.surge_cli.specs.Words.{script_asked}
 use Rattle.surge_cli.specs.Output.{output}
 use Rattle.surge_cli.specs.Expected.{Held, Expects}
-use Rattle.surge_cli.specs.Stages.{Admits, IsLater, IsNamed}
+use Rattle.surge_cli.specs.Stages.{MeetsHeld, IsStop, IsLater, IsStage, IsInner, RisesBefore, IsNamed, StopsWords}
 use Rattle.surge_cli.specs.Answers.{Written, Answers, OfWords, Reports}
+use Rattle.surge_cli.proofs.Written.{nothing_appended}
+
+-- ---- the line of an answer
 
 whole_front : (old new : Written) (line : List ℕ) → new ≡ appended old line → GrewByFront old new line
 whole_front old new line e = (length line, omega arith, e ∙ ap (λ (x : List ℕ). appended old x) (sym (take_all (length line) line (omega arith))))
@@ -25,6 +30,7 @@ reported status.NoMemory old new f g n e = (status.NoMemory, whole_front old new
 reported status.Usage old new f g n e = inl e
 reported (status.Absent role) old new f g n e = inl e
 reported (status.Data fault) old new f g n e = inl e
+reported (status.Script fault) old new f g n e = inl e
 reported status.ReadFault old new f g n e = inl e
 reported status.WriteFault old new f g n e = inl e
 reported (status.NotBuilt what) old new f g n e = inl e
@@ -36,13 +42,10 @@ reported_front status.NoMemory old new f g n rise h = (status.NoMemory, h)
 reported_front status.Usage old new f g n rise h = inr (rise, h)
 reported_front (status.Absent role) old new f g n rise h = inr (rise, h)
 reported_front (status.Data fault) old new f g n rise h = inr (rise, h)
+reported_front (status.Script fault) old new f g n rise h = inr (rise, h)
 reported_front status.ReadFault old new f g n rise h = inr (rise, h)
 reported_front status.WriteFault old new f g n rise h = inr (rise, h)
 reported_front (status.NotBuilt what) old new f g n rise h = inr (rise, h)
-
-nothing_appended : (old : Written) → old ≡ appended old []
-nothing_appended None = refl
-nothing_appended (Some bytes) = ap Some (sym (append-nil bytes))
 
 -- nothing was, where the line found no memory
 pub unreported : (old : Written) (f g : ℕ) → Reports status.NoMemory old old f g
@@ -50,32 +53,116 @@ unreported old f g = (status.NoMemory, (0, omega arith, nothing_appended old))
 
 -- ---- the words
 
-pub no_memory : (asked : Option (Option (List ℕ))) → OfWords asked status.NoMemory
+no_memory : (asked : Option (Option Asked)) → OfWords asked status.NoMemory
 no_memory None = inr refl
 no_memory (Some None) = inr refl
-no_memory (Some (Some name)) = tt
+no_memory (Some (Some asked)) = tt
 
 -- an answer that does not come from the words is one to words that name a script
-pub named_words : (asked : Option (Option (List ℕ))) (s : Status) → IsNamed asked → IsLater s → OfWords asked s
+pub named_words : (asked : Option (Option Asked)) (s : Status) → IsNamed asked → IsLater s → OfWords asked s
 named_words None s named later = absurd named
 named_words (Some None) s named later = absurd named
-named_words (Some (Some name)) s named later = later
+named_words (Some (Some asked)) s named later = later
+
+stage_later : (s : Status) → IsStage s → IsLater s
+stage_later status.Done h = absurd h
+stage_later status.Usage h = absurd h
+stage_later (status.Absent role) h = tt
+stage_later (status.Data fault) h = tt
+stage_later (status.Script fault) h = tt
+stage_later status.ReadFault h = tt
+stage_later status.WriteFault h = absurd h
+stage_later status.NoMemory h = tt
+stage_later (status.NotBuilt unbuilt.Words) h = absurd h
+stage_later (status.NotBuilt (unbuilt.Statement n)) h = tt
+
+-- ---- a stage that asks nothing of the files
+
+inner_stage : (s : Status) → IsInner s → IsStage s
+inner_stage status.Done h = absurd h
+inner_stage status.Usage h = absurd h
+inner_stage (status.Absent role) h = absurd h
+inner_stage (status.Data fault) h = tt
+inner_stage (status.Script fault) h = tt
+inner_stage status.ReadFault h = absurd h
+inner_stage status.WriteFault h = absurd h
+inner_stage status.NoMemory h = tt
+inner_stage (status.NotBuilt unbuilt.Words) h = absurd h
+inner_stage (status.NotBuilt (unbuilt.Statement n)) h = tt
+
+inner_rises : (s : Status) (a b f g : ℕ) → IsInner s → RisesBefore s a b f g
+inner_rises status.Done a b f g h = tt
+inner_rises status.Usage a b f g h = tt
+inner_rises (status.Absent role) a b f g h = absurd h
+inner_rises (status.Data fault) a b f g h = tt
+inner_rises (status.Script fault) a b f g h = tt
+inner_rises status.ReadFault a b f g h = absurd h
+inner_rises status.WriteFault a b f g h = tt
+inner_rises status.NoMemory a b f g h = tt
+inner_rises (status.NotBuilt what) a b f g h = tt
+
+pub inner_stages : {A : Type 0} (r : Result A Status) → IfErr r IsInner → IfErr r IsStage
+inner_stages (Ok a) h = h
+inner_stages (Err s) h = inner_stage s h
+
+pub inner_counts : {A : Type 0} (r : Result A Status) (a b f g : ℕ) → IfErr r IsInner → IfErr r (λ s. RisesBefore s a b f g)
+inner_counts (Ok x) a b f g h = h
+inner_counts (Err s) a b f g h = inner_rises s a b f g h
+
+-- ---- from the stages to the words
+
+pub stage_words : (asked : Option (Option Asked)) (s : Status) → IsNamed asked → IsStage s → OfWords asked s
+stage_words asked s named stage = named_words asked s named (stage_later s stage)
+
+pub stage_stops : (s : Status) → IsStage s → IsStop s
+stage_stops status.Done h = absurd h
+stage_stops status.Usage h = absurd h
+stage_stops (status.Absent role) h = tt
+stage_stops (status.Data fault) h = tt
+stage_stops (status.Script fault) h = tt
+stage_stops status.ReadFault h = tt
+stage_stops status.WriteFault h = absurd h
+stage_stops status.NoMemory h = tt
+stage_stops (status.NotBuilt what) h = tt
+
+pub words_stops : (words : List (List ℕ)) (s : Status) → StopsWords words s → IsStop s
+words_stops words status.Done h = absurd h
+words_stops words status.Usage h = tt
+words_stops words (status.Absent role) h = tt
+words_stops words (status.Data fault) h = tt
+words_stops words (status.Script fault) h = tt
+words_stops words status.ReadFault h = tt
+words_stops words status.WriteFault h = absurd h
+words_stops words status.NoMemory h = tt
+words_stops words (status.NotBuilt what) h = tt
+
+pub words_told : (words : List (List ℕ)) (s : Status) → StopsWords words s → OfWords (script_asked words) s
+words_told words status.Done h = absurd h
+words_told words status.Usage h = subst (λ (a : Option (Option Asked)). OfWords a status.Usage) (sym h) (inl refl)
+words_told words (status.Absent role) h = absurd h
+words_told words (status.Data fault) h = absurd h
+words_told words (status.Script fault) h = absurd h
+words_told words status.ReadFault h = absurd h
+words_told words status.WriteFault h = absurd h
+words_told words status.NoMemory h = no_memory (script_asked words)
+words_told words (status.NotBuilt unbuilt.Words) h = subst (λ (a : Option (Option Asked)). OfWords a (status.NotBuilt unbuilt.Words)) (sym h) (inl refl)
+words_told words (status.NotBuilt (unbuilt.Statement n)) h = absurd h
 
 -- the same of what is answered once the line was written
-pub reported_words : (asked : Option (Option (List ℕ))) (s r : Status) → (r ≡ s) ⊎ ((r ≡ status.NoMemory) × (s ≡ status.Done → ⊥)) → OfWords asked s → OfWords asked r
+pub reported_words : (asked : Option (Option Asked)) (s r : Status) → (r ≡ s) ⊎ ((r ≡ status.NoMemory) × (s ≡ status.Done → ⊥)) → OfWords asked s → OfWords asked r
 reported_words asked s r (inl is) h = subst (λ (x : Status). OfWords asked x) (sym is) h
 reported_words asked s r (inr is) h = subst (λ (x : Status). OfWords asked x) (sym is.0) (no_memory asked)
 
 -- ---- the output
 
-pub prints : (answer : Answer) (held : Option Held) (words : List (List ℕ)) (p : Plan) (g : GraphData) (old new : Written) → Admits (λ files. Expects files words) held p g → new ≡ appended old (output answer p g) → IfSome held (λ files. Answers answer files words status.Done old new)
-prints answer None words p g old new admits e = tt
-prints answer (Some files) words p g old new admits e = record { plan = p; graph = g; expected = admits; printed = e }
+pub prints : (answer : Answer) (held : Option Held) (words : List (List ℕ)) (job : Job) (old new : Written) → MeetsHeld held (λ files. Expects files words) (Ok job) → new ≡ appended old (output answer job) → IfSome held (λ files. Answers answer files words status.Done old new)
+prints answer None words job old new h e = tt
+prints answer (Some files) words job old new h e = record { job = job; expected = h; printed = e }
 
-pub prints_front : (answer : Answer) (held : Option Held) (words : List (List ℕ)) (p : Plan) (g : GraphData) (old new : Written) → Admits (λ files. Expects files words) held p g → GrewByFront old new (output answer p g) → IfSome held (λ files. Answers answer files words status.WriteFault old new)
-prints_front answer None words p g old new admits e = tt
-prints_front answer (Some files) words p g old new admits e = record { plan = p; graph = g; expected = admits; printed = e }
+pub prints_front : (answer : Answer) (held : Option Held) (words : List (List ℕ)) (job : Job) (old new : Written) → MeetsHeld held (λ files. Expects files words) (Ok job) → GrewByFront old new (output answer job) → IfSome held (λ files. Answers answer files words status.WriteFault old new)
+prints_front answer None words job old new h e = tt
+prints_front answer (Some files) words job old new h e = record { job = job; expected = h; printed = e }
 
-pub lacks_memory : (answer : Answer) (held : Option Held) (words : List (List ℕ)) (p : Plan) (g : GraphData) (old new : Written) → Admits (λ files. Expects files words) held p g → GrewByFront old new (output answer p g) → IfSome held (λ files. Answers answer files words status.NoMemory old new)
-lacks_memory answer None words p g old new admits e = tt
-lacks_memory answer (Some files) words p g old new admits e = inr (record { plan = p; graph = g; expected = admits; printed = e })
+pub lacks_memory : (answer : Answer) (held : Option Held) (words : List (List ℕ)) (job : Job) (old new : Written) → MeetsHeld held (λ files. Expects files words) (Ok job) → GrewByFront old new (output answer job) → IfSome held (λ files. Answers answer files words status.NoMemory old new)
+lacks_memory answer None words job old new h e = tt
+lacks_memory answer (Some files) words job old new h e = inr (record { job = job; expected = h; printed = e })

@@ -1,10 +1,10 @@
 -- What one more piece of a file makes of the bytes read so far.
-use Rattle.std.proofs.Common.{◌≡◌, ◌∙◌, ◌+◌, ◌-◌, ◌<◌, ◌≤◌, ℕ, zero, suc, List, [], ◌∷◌, ◌++◌, length, take, drop, refl, sym, ap, subst, arith, append_assoc, length-append, Option, Some, None, length-drop, append-nil}
+use Rattle.std.proofs.Common.{◌≡◌, ◌∙◌, ℕ, List, [], ◌++◌, length, take, drop, refl, sym, ap, subst, append_assoc, Option, Some, None}
 use Rattle.std.proofs.lemmas.List.{take-append-drop}
 use Rattle.std.proofs.Math.Seq.{drop-append_seam}
-use Rattle.surge_outside.specs.Held.{HeldFiles, file_at, Fetches, FetchesFrom, Reads}
+use Rattle.surge_outside.specs.Held.{HeldFiles, file_at, Fetches, FetchesFrom}
 use Rattle.surge_outside.specs.declared.files.Fetched.TheVariants as fetched
-use Rattle.surge_cli.specs.Reading.{Told, IsFront, IsToldFront, IsLonger}
+use Rattle.surge_cli.specs.Reading.{IsFront, IsToldFront}
 
 nothing_read : (held : Option HeldFiles) (name : List ℕ) → IsToldFront held name []
 nothing_read None name = tt

@@ -1,12 +1,11 @@
 pub mod CommandLine
 pub mod Fronts
-pub mod Folds
-pub mod Rules
 pub mod Growing
-pub mod Options
 pub mod ViewEdges
 pub mod Written
-pub mod HopsChecked
-pub mod Expecting
+pub mod Runs
+pub mod Fetching
+pub mod Telling
+pub mod Meeting
 pub mod Endings
 pub mod Deciding

@@ -1,7 +1,7 @@
--- What is expected of the program over files that are told: which refusal, or which plan over which graph. The first
--- refusal in this order is the answer: the words; the script fetched, and read; the nodes fetched; the edges fetched; the
--- nodes and then the edges read; the script checked against its graph.
-use Rattle.std.specs.Prelude.{◌≡◌, ◌⊎◌, ℕ, nat_lt, Bool, true, false, List, length, Option, Some, None, Result, Ok, Err}
+-- What is expected of the program over files that are told: what is to be done, or the refusal. The first refusal in this
+-- order is the answer: the words; the script fetched, and read; the nodes fetched; the edges fetched; the nodes and then
+-- the edges read; the script checked against its graph.
+use Rattle.std.specs.Prelude.{◌≡◌, ◌⊎◌, ℕ, nat_lt, List, length, if◌then◌else◌, Option, Some, None, Result, Ok, Err}
 use Rattle.surge_outside.specs.Held.{file_at}
 use Rattle.graph_model.specs.GraphData.{GraphData}
 use Rattle.graph_loader.specs.DataFiles.{graph_of}
@@ -10,33 +10,37 @@ use Rattle.graph_loader.specs.declared.fault.DataFile.TheVariants as file
 use Rattle.graph_loader.specs.declared.fault.DataKind.TheVariants as wrong
 use Rattle.graph_loader.specs.declared.fault.DataFault.{DataFault}
 use Rattle.gvdl_tree.specs.declared.script.Script.{Script}
-use Rattle.gvdl_parser.specs.Script.{IsScript}
+use Rattle.gvdl_parser.specs.declared.fault.ScriptFault.{ScriptFault}
+use Rattle.gvdl_parser.specs.declared.fault.ScriptFault.TheVariants as script_fault
+use Rattle.gvdl_parser.specs.Script.{IsScript, IsFirstFault}
+use Rattle.gvdl_check.specs.declared.fault.CheckFault.{CheckFault}
+use Rattle.gvdl_check.specs.declared.fault.CheckFault.TheVariants as check_fault
+use Rattle.gvdl_check.specs.declared.plan.Plan.{Plan}
+use Rattle.gvdl_check.specs.Plans.{plan}
+use Rattle.surge_cli.specs.declared.status.FileRole.{FileRole}
 use Rattle.surge_cli.specs.declared.status.FileRole.TheVariants as role
 use Rattle.surge_cli.specs.declared.status.Unbuilt.TheVariants as unbuilt
 use Rattle.surge_cli.specs.declared.status.Status.{Status}
 use Rattle.surge_cli.specs.declared.status.Status.TheVariants as status
-use Rattle.surge_cli.specs.declared.plan.Plan.{Plan}
+use Rattle.surge_cli.specs.declared.words.Task.{Task}
+use Rattle.surge_cli.specs.declared.words.Asked.{Asked}
+use Rattle.surge_cli.specs.declared.job.Job.{Job}
 use Rattle.surge_cli.specs.Words.{script_asked}
-use Rattle.surge_cli.specs.Planning.{plan}
 
 -- the files that are held, by name
 abbrev pub Held : Type 0
 Held = List (List ℕ × List ℕ)
 
-pub data Expectation : Type 0 where
-  refused : Status → Expectation
-  runs : Plan → GraphData → Expectation
+-- what is to be done, or the refusal
+abbrev pub Expectation : Type 0
+Expectation = Result Job Status
 
--- a file of at most so many bytes, and what is expected of its bytes
-abbrev pub within : Bool → Status → (Expectation → Type 0) → Expectation → Type 0
-within true large and_then e = e ≡ Expectation.refused large
-within false large and_then e = and_then e
+infixl 10 ◌>>=◌
+abbrev pub ◌>>=◌ : {A B : Type 0} → Result A Status → (A → Result B Status) → Result B Status
+(Ok a) >>= f = f a
+(Err s) >>= f = Err s
 
-abbrev pub fetched : Option (List ℕ) → ℕ → (absent large : Status) → (List ℕ → Expectation → Type 0) → Expectation → Type 0
-fetched None limit absent large and_then e = e ≡ Expectation.refused absent
-fetched (Some bytes) limit absent large and_then e = within (nat_lt limit (length bytes)) large (and_then bytes) e
-
--- ---- the data
+-- ---- files
 
 abbrev pub script_limit : ℕ
 script_limit = 1_048_576
@@ -44,53 +48,92 @@ script_limit = 1_048_576
 abbrev pub data_limit : ℕ
 data_limit = 268_435_456
 
-abbrev pub ExpectsPlan : Option Plan → GraphData → Expectation → Type 0
-ExpectsPlan None graph e = e ≡ Expectation.refused (status.NotBuilt unbuilt.Script)
-ExpectsPlan (Some plan) graph e = e ≡ Expectation.runs plan graph
-
--- the graph that the data spell, or their first fault
-abbrev pub ExpectsGraph : Script → Result GraphData DataFault → Expectation → Type 0
-ExpectsGraph script (Ok graph) e = ExpectsPlan (plan script graph) graph e
-ExpectsGraph script (Err fault) e = e ≡ Expectation.refused (status.Data fault)
+abbrev pub limit_of : FileRole → ℕ
+limit_of role.Script = script_limit
+limit_of role.Nodes = data_limit
+limit_of role.Edges = data_limit
 
 -- the fault of a data file of more bytes than the limit; it is of no record
 abbrev pub too_large : DataFile → DataFault
 too_large file = record { file = file; row = 0; column = 0; kind = wrong.TooLarge }
 
-abbrev pub ExpectsData : Held → Script → Expectation → Type 0
-ExpectsData held script =
-    fetched (file_at held script.nodes) data_limit (status.Absent role.Nodes) (status.Data (too_large file.Nodes)) (λ nodes.
-    fetched (file_at held script.edges) data_limit (status.Absent role.Edges) (status.Data (too_large file.Edges)) (λ edges.
-    ExpectsGraph script (graph_of nodes edges)))
+-- the answer to a file of more bytes than its limit
+abbrev pub large_of : FileRole → Status
+large_of role.Script = status.Script script_fault.TooLarge
+large_of role.Nodes = status.Data (too_large file.Nodes)
+large_of role.Edges = status.Data (too_large file.Edges)
+
+abbrev pub within_limit : FileRole → Option (List ℕ) → Result (List ℕ) Status
+within_limit role None = Err (status.Absent role)
+within_limit role (Some bytes) = if nat_lt (limit_of role) (length bytes) then Err (large_of role) else Ok bytes
+
+-- the bytes of a file within its limit
+abbrev pub fetched : Held → FileRole → List ℕ → Result (List ℕ) Status
+fetched held role name = within_limit role (file_at held name)
+
+-- ---- the data, and the plan over them
+
+-- the graph that the data spell, or their first fault
+abbrev pub loaded : Result GraphData DataFault → Result GraphData Status
+loaded (Ok graph) = Ok graph
+loaded (Err fault) = Err (status.Data fault)
+
+-- the plan of the script over its graph, its first fault, or the first statement that is not built (a plan's definition
+-- never speaks of memory)
+abbrev pub planned : Result Plan CheckFault → Result Plan Status
+planned (Ok plan) = Ok plan
+planned (Err (check_fault.Fault fault)) = Err (status.Script fault)
+planned (Err (check_fault.NotBuilt n)) = Err (status.NotBuilt (unbuilt.Statement n))
+planned (Err check_fault.NoMemory) = Err status.NoMemory
+
+-- the graph that these bytes of a nodes file and the edges file of a script spell
+abbrev pub graph_with : Held → Script → List ℕ → Result GraphData Status
+graph_with held script nodes = do
+  edges ← fetched held role.Edges script.edges
+  loaded (graph_of nodes edges)
+
+-- the graph that the data files of a script spell
+abbrev pub graph_for : Held → Script → Result GraphData Status
+graph_for held script = do
+  nodes ← fetched held role.Nodes script.nodes
+  graph_with held script nodes
+
+-- what is to be done over this graph
+abbrev pub job_over : Task → Script → GraphData → Result Job Status
+job_over task script graph = do
+  p ← planned (plan script graph)
+  Ok (record { task = task; script = script; graph = graph; plan = p })
+
+-- what is to be done of the script
+abbrev pub job_for : Held → Task → Script → Result Job Status
+job_for held task script = do
+  graph ← graph_for held script
+  job_over task script graph
 
 -- ---- the script
 
--- the only script that the text is
-pub record IsTheScript (text : List ℕ) (script : Script) : Type 0 where
-  pub found : IsScript text script
-  pub only : (other : Script) → IsScript text other → other ≡ script
+-- the text is a script, or has a first fault
+abbrev pub ExpectsOfText : Held → Task → List ℕ → Expectation → Type 0
+ExpectsOfText held task text e = ((script : Script) × IsScript text script × (e ≡ job_for held task script))
+    ⊎ ((fault : ScriptFault) × IsFirstFault text fault × (e ≡ Err (status.Script fault)))
 
-pub record ExpectsOfScript (held : Held) (text : List ℕ) (e : Expectation) : Type 0 where
-  pub script : Script
-  pub the_script : IsTheScript text script
-  pub data_expected : ExpectsData held script e
-
-pub record ExpectsNoScript (text : List ℕ) (e : Expectation) : Type 0 where
-  pub none : (script : Script) → IsScript text script → ⊥
-  pub refusal : e ≡ Expectation.refused (status.NotBuilt unbuilt.Script)
-
-abbrev pub ExpectsText : Held → List ℕ → Expectation → Type 0
-ExpectsText held text e = ExpectsNoScript text e ⊎ ExpectsOfScript held text e
+abbrev pub ExpectsOfFile : Held → Task → Result (List ℕ) Status → Expectation → Type 0
+ExpectsOfFile held task (Ok text) e = ExpectsOfText held task text e
+ExpectsOfFile held task (Err s) e = e ≡ Err s
 
 -- ---- the words
 
 -- of words that are not of the form, of words that ask for what is not built yet, and of words that name a script
-abbrev pub ExpectsOfName : Held → Option (Option (List ℕ)) → Expectation → Type 0
-ExpectsOfName held None e = e ≡ Expectation.refused status.Usage
-ExpectsOfName held (Some None) e = e ≡ Expectation.refused (status.NotBuilt unbuilt.Words)
-ExpectsOfName held (Some (Some name)) e =
-    fetched (file_at held name) script_limit (status.Absent role.Script) (status.NotBuilt unbuilt.Script) (ExpectsText held) e
+abbrev pub ExpectsAsked : Held → Option (Option Asked) → Expectation → Type 0
+ExpectsAsked held None e = e ≡ Err status.Usage
+ExpectsAsked held (Some None) e = e ≡ Err (status.NotBuilt unbuilt.Words)
+ExpectsAsked held (Some (Some asked)) e = ExpectsOfFile held asked.task (fetched held role.Script asked.script) e
 
 -- what is expected of the program, given these files and these words
 abbrev pub Expects : Held → List (List ℕ) → Expectation → Type 0
-Expects held words e = ExpectsOfName held (script_asked words) e
+Expects held words e = ExpectsAsked held (script_asked words) e
+
+-- this is expected, and nothing else is
+pub record IsOnly (expects : Expectation → Type 0) (e : Expectation) : Type 0 where
+  pub holds : expects e
+  pub only : (other : Expectation) → expects other → other ≡ e

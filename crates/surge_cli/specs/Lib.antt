@@ -1,13 +1,9 @@
 pub mod Words
 pub mod Reading
 pub mod ReadingAnswer
-pub mod Truth
-pub mod Hops
 pub mod TableText
-pub mod Planning
 pub mod Output
 pub mod StatusText
 pub mod Expected
 pub mod Stages
-pub mod HopsPlan
 pub mod Answers

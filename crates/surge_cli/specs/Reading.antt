@@ -1,5 +1,5 @@
 -- What reading a whole file gives.
-use Rattle.std.specs.Prelude.{◌≡◌, ◌<◌, ◌≤◌, ℕ, List, [], ◌++◌, length, Option, Some, None}
+use Rattle.std.specs.Prelude.{◌≡◌, ◌<◌, ℕ, List, [], ◌++◌, length, Option, Some, None}
 use Rattle.surge_outside.specs.Held.{file_at}
 
 -- the files' answer on this name, where the files are told

@@ -1,5 +1,5 @@
 -- What the words of the command line ask for.
-use Rattle.std.specs.Prelude.{ℕ, ◌^◌, Bool, true, false, ◌&&◌, nat_le, nat_lt, if◌then◌else◌, List, [], ◌∷◌, length, codes, Option, Some, None, option_map, option_and_then}
+use Rattle.std.specs.Prelude.{ℕ, ◌^◌, Bool, true, ◌&&◌, nat_le, nat_lt, if◌then◌else◌, List, [], ◌∷◌, length, codes, Option, Some, None, option_map, option_and_then}
 use Rattle.std.specs.Char.{is_ascii_digit}
 use Rattle.std.specs.List.{list_all}
 use Rattle.std.specs.Str.{bytes_eq}
@@ -12,6 +12,9 @@ use Rattle.surge_cli.specs.declared.words.Source.TheVariants as source
 use Rattle.surge_cli.specs.declared.words.Mode.{Mode}
 use Rattle.surge_cli.specs.declared.words.Mode.TheVariants as mode
 use Rattle.surge_cli.specs.declared.words.Request.{Request}
+use Rattle.surge_cli.specs.declared.words.Task.{Task}
+use Rattle.surge_cli.specs.declared.words.Task.TheVariants as task
+use Rattle.surge_cli.specs.declared.words.Asked.{Asked}
 
 -- ---- the command, as `clap` sees it
 
@@ -84,15 +87,20 @@ request_from rows =
 abbrev pub request_of : List (List ℕ) → Option Request
 request_of words = option_and_then request_from (matched words)
 
--- the script that a request runs, where requests of its kind are built: so far without the sample, other modes and turns
-abbrev pub script_run : Source → Mode → Option ℕ → Option (List ℕ)
-script_run (source.Script name) mode.Run None = Some name
-script_run _ _ _ = None
+abbrev pub asked_for : List ℕ → Task → Asked
+asked_for name what = record { script = name; task = what }
 
-abbrev pub script_of : Request → Option (List ℕ)
-script_of request = script_run request.source request.mode request.turns
+-- the script that a request asks for, and what is done of it, where requests of its kind are built: so far without the
+-- sample, turns and the summary
+abbrev pub asked_by : Source → Mode → Option ℕ → Option Asked
+asked_by (source.Script name) mode.Run None = Some (asked_for name task.Run)
+asked_by (source.Script name) mode.Check None = Some (asked_for name task.Check)
+asked_by _ _ _ = None
+
+abbrev pub asked_of : Request → Option Asked
+asked_of request = asked_by request.source request.mode request.turns
 
 -- the script that the words ask for: none where they are not of the form, and none inside where they ask for what is not
 -- built yet
-unfoldable pub script_asked : List (List ℕ) → Option (Option (List ℕ))
-script_asked words = option_map script_of (request_of words)
+unfoldable pub script_asked : List (List ℕ) → Option (Option Asked)
+script_asked words = option_map asked_of (request_of words)

@@ -1,6 +1,6 @@
 //! Whole files, up to a limit.
 
-ghost use Rattle.std.specs.Prelude.{◌≡◌, ◌<◌, ◌≤◌, ◌^◌, length, IfOk, IfErr, OnOk, vec_len};
+ghost use Rattle.std.specs.Prelude.{◌≡◌, ◌<◌, ◌≤◌, ◌^◌, length, IfOk, IfErr, vec_len};
 ghost use Rattle.surge_outside.specs.Counts.{HasRisen};
 ghost use Rattle.surge_cli.specs.Reading.{IsToldFront};
 ghost use Rattle.surge_cli.specs.ReadingAnswer.{Reads, Takes};

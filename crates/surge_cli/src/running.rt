@@ -1,12 +1,12 @@
 //! The program as one call.
 
-ghost use Rattle.std.specs.Prelude.{◌≡◌, ◌⊎◌, ◌≤◌, map, string_bytes, IfSome};
+ghost use Rattle.std.specs.Prelude.{◌≡◌, ◌⊎◌, map, string_bytes, IfSome};
 ghost use Rattle.surge_cli.specs.Answers.{Answers, KeepsOutput, OfWords, Rises, Matches, Reports};
 ghost use Rattle.surge_cli.specs.Expected.{Expectation, Expects};
 ghost use Rattle.surge_cli.specs.StatusText.{status_line};
 ghost use Rattle.surge_cli.specs.Words.{script_asked};
 
-use crate::session::run_plan;
+use crate::session::do_job;
 use crate::stages::prepare;
 use crate::status::Status;
 use std::alloc::Global;
@@ -27,7 +27,7 @@ fn run<F: Files, O: Sink, U: Updater>(
     ensures counts { Rises result (F.absences files.old) (F.absences files.new) (F.faults files.old) (F.faults files.new) (O.faults out.old) (O.faults out.new) }
 {
     match prepare(alloc, files, words) {
-        Ok((graph, plan)) => match run_plan(alloc, &plan, &graph, out, updater) {
+        Ok(job) => match do_job(alloc, &job, out, updater) {
             Ok(()) => Status::Done,
             Err(Trouble::Failed) => Status::WriteFault,
             Err(Trouble::NoMemory) => Status::NoMemory,
@@ -73,14 +73,14 @@ fn report<E: Sink>(alloc: Global, status: Status, err: &mut E) -> Status
     }
 }
 
-/// Runs the program: reads the script that the words name and the two data files that it names, runs its vertex program
-/// alone on each view, and writes the tables to `out`. An answer other than [`Status::Done`] is reported to `err` as one
-/// line.
+/// Runs the program: reads the script that the words name and the two data files that it names, checks the script, makes
+/// each of its runs alone on each view, and writes the tables to `out`; or, in the mode `check`, writes the script's
+/// canonical text. An answer other than [`Status::Done`] is reported to `err` as one line.
 ///
 /// The words are the program's name and `(--script FILE | --sample N) [--mode run|check|summary] [--turns N]`, as `clap`
-/// reads four options that each take one text; so far only `--script` is built, with the mode `run`. What is told of the
-/// files decides the answer, unless the outside fails or memory is wanting: the first refusal in the order of reading, or
-/// the output. Views and collections of views are those of Graphsurge (Sahu and Salihoglu 2021).
+/// reads four options that each take one text; so far only `--script` is built, with the modes `run` and `check`. What is
+/// told of the files decides the answer, unless the outside fails or memory is wanting: the first refusal in the order of
+/// reading, or the output. Views and collections of views are those of Graphsurge (Sahu and Salihoglu 2021).
 pub fn surge<F: Files, O: Sink, E: Sink, U: Updater>(
     alloc: Global,
     words: &[String],

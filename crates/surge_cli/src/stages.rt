@@ -1,29 +1,30 @@
-//! From the words to a plan over a graph, stage by stage.
+//! From the words to a job, stage by stage.
 
-ghost use Rattle.std.specs.Prelude.{◌≡◌, ◌≤◌, ◌<◌, ◌^◌, map, string_bytes, length, IfOk, IfErr, Ok, Some};
+ghost use Rattle.std.specs.Prelude.{◌≡◌, ◌≤◌, ◌<◌, ◌^◌, map, string_bytes, length, IfOk, IfErr};
 ghost use Rattle.graph_loader.specs.DataFiles.{graph_of};
-ghost use Rattle.surge_cli.specs.Expected.{Expectation, ExpectsGraph, ExpectsData, ExpectsOfName, Expects, IsTheScript, too_large};
-ghost use Rattle.surge_cli.specs.Output.{IsPlan};
-ghost use Rattle.surge_cli.specs.Planning.{plan};
-ghost use Rattle.surge_cli.specs.Words.{script_of, script_asked};
+ghost use Rattle.gvdl_check.specs.Fits.{PlanFits};
+ghost use Rattle.gvdl_check.specs.Plans.{plan};
+ghost use Rattle.gvdl_check.specs.Written.{IsWritten};
 ghost use Rattle.surge_cli.specs.Answers.{OfWords};
-ghost use Rattle.surge_cli.specs.Stages.{limit_of, large_of, IsLater, StopsWords, IsFetched, StopsFetch, StopsParse, StopsLoad, StopsCheck, Refuses, RefusesHere, Admits, IsNamed, RisesBefore, HasData, HasText};
+ghost use Rattle.surge_cli.specs.Expected.{limit_of, too_large, large_of, fetched, loaded, planned, graph_with, graph_for, job_over, job_for, ExpectsAsked, Expects};
+ghost use Rattle.surge_cli.specs.Stages.{IsStop, IsStage, IsInner, RisesBefore, Tells, TellsHeld, MeetsHeld, StopsWords, IsNamed, IsTheScript, StopsParse, HasScript, StopsScript};
+ghost use Rattle.surge_cli.specs.Words.{script_asked};
 
-use crate::check::check;
-use crate::plan::Plan;
+use crate::job::Job;
 use crate::reading::{Reading, read_file};
 use crate::status::{FileRole, Status, Unbuilt};
-use crate::words::{Mode, Request, Source, read_words};
+use crate::words::{Asked, Task, asked_of, read_words};
 use graph_loader::{DataFault, DataFile, DataKind, LoadFault, load};
 use graph_model::Graph;
-use gvdl_parser::{ParseFault, parse};
+use gvdl_check::{CheckFault, Plan, check};
+use gvdl_parser::{ParseFault, ScriptFault, parse};
 use gvdl_tree::Script;
 use std::alloc::Global;
-use surge_outside::{Files, NoMemory, Text, Trouble};
+use surge_outside::{Files, List, NoMemory, Trouble};
 
 fn limit_of(role: FileRole) -> usize
     ensures limit { result ≡ limit_of role }
-    ensures small { result < 2 ^ 40 }
+    ensures small { result < 2 ^ 31 }
 {
     match role {
         FileRole::Script => 1_048_576,
@@ -46,32 +47,32 @@ fn too_large(file: DataFile) -> Status
 // The answer to a file of more bytes than its limit.
 fn large_of(role: FileRole) -> Status
     ensures value { result ≡ large_of role }
-    ensures later { IsLater result }
+    ensures stage { IsStage result }
 {
     match role {
-        FileRole::Script => Status::NotBuilt(Unbuilt::Script),
+        FileRole::Script => Status::Script(ScriptFault::TooLarge),
         FileRole::Nodes => too_large(DataFile::Nodes),
         FileRole::Edges => too_large(DataFile::Edges),
     }
 }
 
 // Fetches a whole file within its limit.
-fn fetch_whole<F: Files>(
+fn fetch<F: Files>(
     alloc: Global,
     files: &mut F,
     role: FileRole,
     name: &str,
-) -> Result<Vec<u8>, Status>
-    ensures ok { IfOk result (λ bytes. IsFetched (F.held files.old) role name.now bytes.items) }
-    ensures err { IfErr result (StopsFetch (F.held files.old) role name.now) }
-    ensures later { IfErr result IsLater }
+) -> Result<List<u8>, Status>
+    ensures told { TellsHeld (F.held files.old) (λ held. fetched held role name.now) result }
+    ensures small { IfOk result (λ bytes. length bytes < 2 ^ 31) }
+    ensures stage { IfErr result IsStage }
     ensures held { F.held files.new ≡ F.held files.old }
     ensures faults { F.faults files.old ≤ F.faults files.new }
     ensures absences { F.absences files.old ≤ F.absences files.new }
     ensures counts { IfErr result (λ s. RisesBefore s (F.absences files.old) (F.absences files.new) (F.faults files.old) (F.faults files.new)) }
 {
     match read_file(alloc, files, name, limit_of(role)) {
-        Ok(Reading::Bytes(bytes)) => Ok(bytes),
+        Ok(Reading::Bytes(bytes)) => Ok(List::from_vec(bytes)),
         Ok(Reading::Absent) => Err(Status::Absent(role)),
         Ok(Reading::TooLarge) => Err(large_of(role)),
         Err(Trouble::Failed) => Err(Status::ReadFault),
@@ -82,20 +83,20 @@ fn fetch_whole<F: Files>(
 fn parse_script(alloc: Global, text: &[u8]) -> Result<Script, Status>
     requires { length text.now < 2 ^ 31 }
     ensures ok { IfOk result (IsTheScript text.now) }
+    ensures written { IfOk result IsWritten }
     ensures err { IfErr result (StopsParse text.now) }
-    ensures later { IfErr result IsLater }
+    ensures stage { IfErr result IsStage }
 {
     match parse(alloc, text) {
         Ok(script) => Ok(script),
-        Err(ParseFault::Fault(_)) => Err(Status::NotBuilt(Unbuilt::Script)),
+        Err(ParseFault::Fault(fault)) => Err(Status::Script(fault)),
         Err(ParseFault::NoMemory) => Err(Status::NoMemory),
     }
 }
 
 fn load_graph(alloc: Global, nodes: &[u8], edges: &[u8]) -> Result<Graph, Status>
-    ensures ok { IfOk result (λ graph. graph_of nodes.now edges.now ≡ Ok graph) }
-    ensures err { IfErr result (StopsLoad nodes.now edges.now) }
-    ensures later { IfErr result IsLater }
+    ensures told { Tells (loaded (graph_of nodes.now edges.now)) result }
+    ensures inner { IfErr result IsInner }
 {
     match load(alloc, nodes, edges) {
         Ok(graph) => Ok(graph),
@@ -104,105 +105,133 @@ fn load_graph(alloc: Global, nodes: &[u8], edges: &[u8]) -> Result<Graph, Status
     }
 }
 
-fn check_script(alloc: Global, script: &Script, graph: &Graph) -> Result<Plan, Status>
-    ensures ok { IfOk result (λ p. plan script.now graph.now ≡ Some p) }
-    ensures fits { IfOk result (IsPlan graph.now) }
-    ensures err { IfErr result (StopsCheck script.now graph.now) }
-    ensures later { IfErr result IsLater }
+fn plan_script(alloc: Global, script: &Script, graph: &Graph) -> Result<Plan, Status>
+    requires { IsWritten script.now }
+    ensures told { Tells (planned (plan script.now graph.now)) result }
+    ensures fits { IfOk result (PlanFits graph.now) }
+    ensures inner { IfErr result IsInner }
 {
     match check(alloc, script, graph) {
-        Ok(Some(plan)) => Ok(plan),
-        Ok(None) => Err(Status::NotBuilt(Unbuilt::Script)),
-        Err(NoMemory) => Err(Status::NoMemory),
+        Ok(plan) => Ok(plan),
+        Err(CheckFault::Fault(fault)) => Err(Status::Script(fault)),
+        Err(CheckFault::NotBuilt(number)) => Err(Status::NotBuilt(Unbuilt::Statement(number))),
+        Err(CheckFault::NoMemory) => Err(Status::NoMemory),
     }
 }
 
-// Fetches both data files of a script.
-fn fetch_data<F: Files>(
+// The graph that these bytes of a nodes file and the edges file of a script spell.
+fn load_edges<F: Files>(
     alloc: Global,
     files: &mut F,
-    script: &Script,
-) -> Result<(Vec<u8>, Vec<u8>), Status>
-    ensures ok { IfOk result (λ both. HasData (F.held files.old) script.now both.0.items both.1.items) }
-    ensures err { IfErr result (Refuses (λ held. ExpectsData held script.now) (F.held files.old)) }
-    ensures later { IfErr result IsLater }
-    ensures held { F.held files.new ≡ F.held files.old }
-    ensures faults { F.faults files.old ≤ F.faults files.new }
-    ensures absences { F.absences files.old ≤ F.absences files.new }
-    ensures counts { IfErr result (λ s. RisesBefore s (F.absences files.old) (F.absences files.new) (F.faults files.old) (F.faults files.new)) }
-{
-    let nodes = match fetch_whole(alloc, files, FileRole::Nodes, script.nodes.as_str()) {
-        Ok(nodes) => nodes,
-        Err(status) => return Err(status),
-    };
-    match fetch_whole(alloc, files, FileRole::Edges, script.edges.as_str()) {
-        Ok(edges) => Ok((nodes, edges)),
-        Err(status) => Err(status),
-    }
-}
-
-// The graph that the data spell, and the plan of the script over it.
-fn plan_over(
-    alloc: Global,
     script: &Script,
     nodes: &[u8],
-    edges: &[u8],
-) -> Result<(Graph, Plan), Status>
-    ensures ok { IfOk result (λ p. ExpectsGraph script.now (graph_of nodes.now edges.now) (Expectation.runs p.1 p.0)) }
-    ensures fits { IfOk result (λ p. IsPlan p.0 p.1) }
-    ensures err { IfErr result (RefusesHere (ExpectsGraph script.now (graph_of nodes.now edges.now))) }
-    ensures later { IfErr result IsLater }
-{
-    let graph = match load_graph(alloc, nodes, edges) {
-        Ok(graph) => graph,
-        Err(status) => return Err(status),
-    };
-    match check_script(alloc, script, &graph) {
-        Ok(plan) => Ok((graph, plan)),
-        Err(status) => Err(status),
-    }
-}
-
-// The graph and the plan of a script.
-fn plan_data<F: Files>(
-    alloc: Global,
-    files: &mut F,
-    script: &Script,
-) -> Result<(Graph, Plan), Status>
-    ensures ok { IfOk result (λ p. Admits (λ held. ExpectsData held script.now) (F.held files.old) p.1 p.0) }
-    ensures fits { IfOk result (λ p. IsPlan p.0 p.1) }
-    ensures err { IfErr result (Refuses (λ held. ExpectsData held script.now) (F.held files.old)) }
-    ensures later { IfErr result IsLater }
+) -> Result<Graph, Status>
+    ensures told { TellsHeld (F.held files.old) (λ held. graph_with held script.now nodes.now) result }
+    ensures stage { IfErr result IsStage }
     ensures held { F.held files.new ≡ F.held files.old }
     ensures faults { F.faults files.old ≤ F.faults files.new }
     ensures absences { F.absences files.old ≤ F.absences files.new }
     ensures counts { IfErr result (λ s. RisesBefore s (F.absences files.old) (F.absences files.new) (F.faults files.old) (F.faults files.new)) }
 {
-    match fetch_data(alloc, files, script) {
-        Ok((nodes, edges)) => plan_over(alloc, script, nodes.as_slice(), edges.as_slice()),
+    match fetch(alloc, files, FileRole::Edges, script.edges.as_str()) {
+        Ok(edges) => load_graph(alloc, nodes, edges.as_slice()),
         Err(status) => Err(status),
     }
 }
 
-// The script that a request runs, where requests of its kind are built.
-fn script_of(request: Request) -> Option<Text>
-    ensures { result ≡ script_of request }
+// The graph that the data files of a script spell.
+fn load_data<F: Files>(alloc: Global, files: &mut F, script: &Script) -> Result<Graph, Status>
+    ensures told { TellsHeld (F.held files.old) (λ held. graph_for held script.now) result }
+    ensures stage { IfErr result IsStage }
+    ensures held { F.held files.new ≡ F.held files.old }
+    ensures faults { F.faults files.old ≤ F.faults files.new }
+    ensures absences { F.absences files.old ≤ F.absences files.new }
+    ensures counts { IfErr result (λ s. RisesBefore s (F.absences files.old) (F.absences files.new) (F.faults files.old) (F.faults files.new)) }
 {
-    match (request.source, request.mode, request.turns) {
-        (Source::Script(name), Mode::Run, None) => Some(name),
-        _ => None,
+    match fetch(alloc, files, FileRole::Nodes, script.nodes.as_str()) {
+        Ok(nodes) => load_edges(alloc, files, script, nodes.as_slice()),
+        Err(status) => Err(status),
     }
 }
 
-// The name of the script that the words ask for.
+// The job over this graph.
+fn job_over(alloc: Global, task: Task, script: Script, graph: Graph) -> Result<Job, Status>
+    requires { IsWritten script }
+    ensures told { Tells (job_over task script graph) result }
+    ensures fits { IfOk result (λ job. PlanFits job.graph job.plan) }
+    ensures inner { IfErr result IsInner }
+{
+    match plan_script(alloc, &script, &graph) {
+        Ok(plan) => Ok(Job {
+            task,
+            script,
+            graph,
+            plan,
+        }),
+        Err(status) => Err(status),
+    }
+}
+
+// The job over the data files that a script names.
+fn job_for<F: Files>(
+    alloc: Global,
+    files: &mut F,
+    task: Task,
+    script: Script,
+) -> Result<Job, Status>
+    requires { IsWritten script }
+    ensures told { TellsHeld (F.held files.old) (λ held. job_for held task script) result }
+    ensures fits { IfOk result (λ job. PlanFits job.graph job.plan) }
+    ensures stage { IfErr result IsStage }
+    ensures held { F.held files.new ≡ F.held files.old }
+    ensures counts { IfErr result (λ s. RisesBefore s (F.absences files.old) (F.absences files.new) (F.faults files.old) (F.faults files.new)) }
+{
+    match load_data(alloc, files, &script) {
+        Ok(graph) => job_over(alloc, task, script, graph),
+        Err(status) => Err(status),
+    }
+}
+
+// The script in the file of this name.
+fn fetch_script<F: Files>(alloc: Global, files: &mut F, name: &str) -> Result<Script, Status>
+    ensures ok { IfOk result (HasScript (F.held files.old) name.now) }
+    ensures written { IfOk result IsWritten }
+    ensures err { IfErr result (StopsScript (F.held files.old) name.now) }
+    ensures stage { IfErr result IsStage }
+    ensures held { F.held files.new ≡ F.held files.old }
+    ensures faults { F.faults files.old ≤ F.faults files.new }
+    ensures absences { F.absences files.old ≤ F.absences files.new }
+    ensures counts { IfErr result (λ s. RisesBefore s (F.absences files.old) (F.absences files.new) (F.faults files.old) (F.faults files.new)) }
+{
+    match fetch(alloc, files, FileRole::Script, name) {
+        Ok(text) => parse_script(alloc, text.as_slice()),
+        Err(status) => Err(status),
+    }
+}
+
+// The job that is asked for.
+fn job_asked<F: Files>(alloc: Global, files: &mut F, asked: &Asked) -> Result<Job, Status>
+    ensures told { MeetsHeld (F.held files.old) (λ held. ExpectsAsked held (Some (Some asked.now))) result }
+    ensures fits { IfOk result (λ job. PlanFits job.graph job.plan) }
+    ensures stage { IfErr result IsStage }
+    ensures held { F.held files.new ≡ F.held files.old }
+    ensures counts { IfErr result (λ s. RisesBefore s (F.absences files.old) (F.absences files.new) (F.faults files.old) (F.faults files.new)) }
+{
+    match fetch_script(alloc, files, asked.script.as_str()) {
+        Ok(script) => job_for(alloc, files, asked.task, script),
+        Err(status) => Err(status),
+    }
+}
+
+// What the words ask for.
 #[tactic(auto, unfolding(crate::specs::Words::script_asked))]
-fn read_name(alloc: Global, words: &[String]) -> Result<Text, Status>
-    ensures ok { IfOk result (λ name. script_asked (map string_bytes words.now) ≡ Some (Some name)) }
+fn read_asked(alloc: Global, words: &[String]) -> Result<Asked, Status>
+    ensures ok { IfOk result (λ asked. script_asked (map string_bytes words.now) ≡ Some (Some asked)) }
     ensures err { IfErr result (StopsWords (map string_bytes words.now)) }
 {
     match read_words(alloc, words) {
-        Ok(Some(request)) => match script_of(request) {
-            Some(name) => Ok(name),
+        Ok(Some(request)) => match asked_of(request) {
+            Some(asked) => Ok(asked),
             None => Err(Status::NotBuilt(Unbuilt::Words)),
         },
         Ok(None) => Err(Status::Usage),
@@ -210,53 +239,22 @@ fn read_name(alloc: Global, words: &[String]) -> Result<Text, Status>
     }
 }
 
-// The script in the file of this name.
-fn fetch_named<F: Files>(alloc: Global, files: &mut F, name: &str) -> Result<Script, Status>
-    ensures ok { IfOk result (HasText (F.held files.old) name.now) }
-    ensures err { IfErr result (Refuses (λ held. ExpectsOfName held (Some (Some name.now))) (F.held files.old)) }
-    ensures later { IfErr result IsLater }
-    ensures held { F.held files.new ≡ F.held files.old }
-    ensures faults { F.faults files.old ≤ F.faults files.new }
-    ensures absences { F.absences files.old ≤ F.absences files.new }
-    ensures counts { IfErr result (λ s. RisesBefore s (F.absences files.old) (F.absences files.new) (F.faults files.old) (F.faults files.new)) }
-{
-    match fetch_whole(alloc, files, FileRole::Script, name) {
-        Ok(text) => parse_script(alloc, text.as_slice()),
-        Err(status) => Err(status),
-    }
-}
-
-// The graph and the plan of the script in the file of this name.
-fn plan_named<F: Files>(alloc: Global, files: &mut F, name: &str) -> Result<(Graph, Plan), Status>
-    ensures ok { IfOk result (λ p. Admits (λ held. ExpectsOfName held (Some (Some name.now))) (F.held files.old) p.1 p.0) }
-    ensures fits { IfOk result (λ p. IsPlan p.0 p.1) }
-    ensures err { IfErr result (Refuses (λ held. ExpectsOfName held (Some (Some name.now))) (F.held files.old)) }
-    ensures later { IfErr result IsLater }
-    ensures held { F.held files.new ≡ F.held files.old }
-    ensures counts { IfErr result (λ s. RisesBefore s (F.absences files.old) (F.absences files.new) (F.faults files.old) (F.faults files.new)) }
-{
-    match fetch_named(alloc, files, name) {
-        Ok(script) => plan_data(alloc, files, &script),
-        Err(status) => Err(status),
-    }
-}
-
-/// The graph and the plan that the words ask for, or the first refusal.
+/// The job that the words ask for, or the first refusal.
 pub(crate) fn prepare<F: Files>(
     alloc: Global,
     files: &mut F,
     words: &[String],
-) -> Result<(Graph, Plan), Status>
-    ensures ok { IfOk result (λ p. Admits (λ held. Expects held (map string_bytes words.now)) (F.held files.old) p.1 p.0) }
-    ensures fits { IfOk result (λ p. IsPlan p.0 p.1) }
-    ensures err { IfErr result (Refuses (λ held. Expects held (map string_bytes words.now)) (F.held files.old)) }
-    ensures named { IfOk result (λ p. IsNamed (script_asked (map string_bytes words.now))) }
+) -> Result<Job, Status>
+    ensures told { MeetsHeld (F.held files.old) (λ held. Expects held (map string_bytes words.now)) result }
+    ensures fits { IfOk result (λ job. PlanFits job.graph job.plan) }
+    ensures stop { IfErr result IsStop }
+    ensures named { IfOk result (λ job. IsNamed (script_asked (map string_bytes words.now))) }
     ensures words { IfErr result (OfWords (script_asked (map string_bytes words.now))) }
     ensures held { F.held files.new ≡ F.held files.old }
     ensures counts { IfErr result (λ s. RisesBefore s (F.absences files.old) (F.absences files.new) (F.faults files.old) (F.faults files.new)) }
 {
-    match read_name(alloc, words) {
-        Ok(name) => plan_named(alloc, files, name.as_str()),
+    match read_asked(alloc, words) {
+        Ok(asked) => job_asked(alloc, files, &asked),
         Err(status) => Err(status),
     }
 }

@@ -2,9 +2,11 @@
 
 ghost use Rattle.std.specs.Prelude.{◌≡◌, IfOk, string_bytes};
 ghost use Rattle.std.specs.Cow.{cow_str_bytes};
-ghost use Rattle.surge_cli.specs.StatusText.{status_number, status_line, file_text, kind_text, fault_line};
+ghost use Rattle.surge_cli.specs.StatusText.{status_number, status_line, file_text, kind_text, fault_line, statement_line};
 
+use crate::script_line::script_line;
 use graph_loader::{DataFault, DataFile, DataKind};
+use gvdl_parser::ScriptFault;
 use std::alloc::Global;
 use std::borrow::CowStr;
 use surge_outside::NoMemory;
@@ -17,13 +19,13 @@ pub enum FileRole {
     Edges,
 }
 
-/// What is of a form that is not built yet.
+/// What is not built yet.
 #[derive(Clone, Copy, Debug, PartialEq, Eq)]
 pub enum Unbuilt {
-    /// The words of the command line ask for a sample, for turns, or for a mode other than `run`.
+    /// The words of the command line ask for a sample, for turns, or for the summary.
     Words,
-    /// The script: too large, with a fault in its text, of another form, or with a fault against its graph.
-    Script,
+    /// The statement of this number, from 1; the load is statement 1. No statement before it has a fault.
+    Statement(u32),
 }
 
 /// How a run of the program ended.
@@ -37,13 +39,15 @@ pub enum Status {
     Absent(FileRole),
     /// The data files have this first fault. A file of more than 2^28 bytes is too large, at record 0 and column 0.
     Data(DataFault),
+    /// The script has this first fault, in its text or against its graph. A script of more than 2^20 bytes is too large.
+    Script(ScriptFault),
     /// A file could not be read.
     ReadFault,
     /// The output could not be written.
     WriteFault,
     /// A request for memory was refused.
     NoMemory,
-    /// The input is of a form that is not built yet.
+    /// What is asked for is not built yet.
     NotBuilt(Unbuilt),
 }
 
@@ -86,6 +90,13 @@ fn fault_line(alloc: Global, fault: DataFault) -> Result<String, NoMemory>
     Ok(format!(in alloc; "surge: data: {file} record {row} column {column}: {kind}\n")?)
 }
 
+// The line of a statement that is not built.
+fn statement_line(alloc: Global, number: u32) -> Result<String, NoMemory>
+    ensures { IfOk result (λ line. string_bytes line ≡ statement_line number) }
+{
+    Ok(format!(in alloc; "surge: not built: statement {number}\n")?)
+}
+
 fn fixed(line: &'static str) -> Result<CowStr<'static, Global>, NoMemory>
     ensures { IfOk result (λ text. cow_str_bytes text ≡ line.entry.now) }
 {
@@ -102,6 +113,7 @@ impl Status {
             Status::Usage => 2,
             Status::Absent(_) => 3,
             Status::Data(_) => 4,
+            Status::Script(_) => 5,
             Status::ReadFault => 6,
             Status::WriteFault => 7,
             Status::NoMemory => 8,
@@ -109,8 +121,8 @@ impl Status {
         }
     }
 
-    /// The line that says so on standard error, with its line feed. It is empty where the run is done. Only the line of a
-    /// fault in the data takes memory; the one error is want of it.
+    /// The line that says so on standard error, with its line feed. It is empty where the run is done. Only a line with
+    /// numbers, or of a script's fault, takes memory; the one error is want of it.
     pub fn line(&self, alloc: Global) -> Result<CowStr<'static, Global>, NoMemory>
         ensures { IfOk result (λ line. cow_str_bytes line ≡ status_line self.now) }
     {
@@ -123,11 +135,14 @@ impl Status {
             Status::Absent(FileRole::Nodes) => fixed("surge: absent: nodes\n"),
             Status::Absent(FileRole::Edges) => fixed("surge: absent: edges\n"),
             Status::Data(fault) => Ok(CowStr::Owned(fault_line(alloc, *fault)?)),
+            Status::Script(fault) => Ok(CowStr::Owned(script_line(alloc, *fault)?)),
             Status::ReadFault => fixed("surge: read fault\n"),
             Status::WriteFault => fixed("surge: write fault\n"),
             Status::NoMemory => fixed("surge: out of memory\n"),
             Status::NotBuilt(Unbuilt::Words) => fixed("surge: not built: words\n"),
-            Status::NotBuilt(Unbuilt::Script) => fixed("surge: not built: script\n"),
+            Status::NotBuilt(Unbuilt::Statement(number)) => {
+                Ok(CowStr::Owned(statement_line(alloc, *number)?))
+            }
         }
     }
 }

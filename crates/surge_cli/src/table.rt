@@ -1,9 +1,8 @@
 //! The text of tables.
 
-ghost use Rattle.std.specs.Prelude.{◌≡◌, ◌++◌, ◌<◌, ◌≤◌, length, string_bytes, OnOk, IfOk, codes, flat_map};
-ghost use Rattle.graph_model.specs.GraphData.{nodes_by_id};
-ghost use Rattle.vertex_lang.specs.Lone.{HasAllValues, HasAllValuesAt};
-ghost use Rattle.surge_cli.specs.TableText.{value_line, outcome_text, node_line, rows, head_text, table_text};
+ghost use Rattle.std.specs.Prelude.{◌≡◌, ◌++◌, length, string_bytes, OnOk, IfOk};
+ghost use Rattle.vertex_lang.specs.Lone.{HasAllValues};
+ghost use Rattle.surge_cli.specs.TableText.{value_line, outcome_text, node_lines, rows, tail_text, head_text, table_text};
 
 use graph_model::{Graph, Val};
 use std::alloc::Global;
@@ -28,6 +27,7 @@ fn push_outcome(text: &mut String, outcome: Outcome) -> Result<(), NoMemory>
 {
     match outcome {
         Outcome::Settled(rounds) => write!(text, "settled {rounds}")?,
+        Outcome::After(rounds) => write!(text, "after {rounds}")?,
         Outcome::Unsettled => text.push_str("unsettled")?,
     }
     Ok(())
@@ -36,7 +36,7 @@ fn push_outcome(text: &mut String, outcome: Outcome) -> Result<(), NoMemory>
 // Adds the line of each node by rising id.
 fn push_values(text: &mut String, graph: &Graph, values: &[Val]) -> Result<(), NoMemory>
     requires { length values.now ≡ length graph.now.ids }
-    ensures { OnOk result (string_bytes text.new ≡ string_bytes text.old ++ flat_map (node_line graph.now values.now) (nodes_by_id graph.now.ids)) }
+    ensures { OnOk result (string_bytes text.new ≡ string_bytes text.old ++ node_lines graph.now values.now) }
 {
     for i in 0..graph.node_count() {
         let node = graph.by_id(i);
@@ -52,26 +52,37 @@ fn push_rows(text: &mut String, graph: &Graph, table: &Lone) -> Result<(), NoMem
 {
     match table.outcome {
         Outcome::Settled(_) => push_values(text, graph, table.values.as_slice()),
+        Outcome::After(_) => push_values(text, graph, table.values.as_slice()),
         Outcome::Unsettled => Ok(()),
     }
+}
+
+// What stands behind the head of a table.
+fn tail_text(alloc: Global, graph: &Graph, table: &Lone) -> Result<String, NoMemory>
+    requires { HasAllValues graph.now table.now }
+    ensures { IfOk result (λ text. string_bytes text ≡ tail_text graph.now table.now) }
+{
+    let mut text = String::from_str(alloc, " ")?;
+    push_outcome(&mut text, table.outcome)?;
+    text.push_str("\n")?;
+    push_rows(&mut text, graph, table)?;
+    text.push_str("end\n")?;
+    Ok(text)
 }
 
 /// The text of a view's table, under this head.
 pub(crate) fn table_text(
     alloc: Global,
-    head: &str,
+    head: Vec<u8>,
     graph: &Graph,
     table: &Lone,
-) -> Result<String, NoMemory>
+) -> Result<Vec<u8>, NoMemory>
     requires { HasAllValues graph.now table.now }
-    ensures { IfOk result (λ text. string_bytes text ≡ table_text head.now graph.now table.now) }
+    ensures { IfOk result (λ text. text.items ≡ table_text head.items graph.now table.now) }
 {
-    let mut text = String::from_str(alloc, head)?;
-    text.push_str(" ")?;
-    push_outcome(&mut text, table.outcome)?;
-    text.push_str("\n")?;
-    push_rows(&mut text, graph, table)?;
-    text.push_str("end\n")?;
+    let tail = tail_text(alloc, graph, table)?;
+    let mut text = head;
+    text.extend_from_slice(tail.as_bytes())?;
     Ok(text)
 }
 
@@ -80,9 +91,11 @@ pub(crate) fn head_text(
     alloc: Global,
     collection: &str,
     view: &str,
-    call: &str,
-) -> Result<String, NoMemory>
-    ensures { IfOk result (λ text. string_bytes text ≡ head_text collection.now view.now call.now) }
+    call: &[u8],
+) -> Result<Vec<u8>, NoMemory>
+    ensures { IfOk result (λ text. text.items ≡ head_text collection.now view.now call.now) }
 {
-    Ok(format!(in alloc; "view {collection}.{view} {call}")?)
+    let mut head = format!(in alloc; "view {collection}.{view} ")?.into_bytes();
+    head.extend_from_slice(call)?;
+    Ok(head)
 }

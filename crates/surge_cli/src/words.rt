@@ -4,7 +4,7 @@ ghost use Rattle.std.specs.Prelude.{◌≡◌, map, option_map, string_bytes, If
 ghost use Rattle.std.specs.Char.{is_ascii_digit};
 ghost use Rattle.std.specs.List.{list_all};
 ghost use Rattle.clap.specs.Words.{app_of, first_of, found_of, rows_of};
-ghost use Rattle.surge_cli.specs.Words.{command, matched, number_of, file_of, source_of, mode_named, mode_of, turns_of, joined, request_from, request_of};
+ghost use Rattle.surge_cli.specs.Words.{command, matched, number_of, file_of, source_of, mode_named, mode_of, turns_of, joined, request_from, request_of, asked_of};
 
 use clap::error::ErrorKind;
 use clap::{Arg, ArgMatches, Command};
@@ -38,6 +38,23 @@ pub(crate) struct Request {
     pub(crate) mode: Mode,
     /// Where the order of turns is drawn, the number from which it is drawn.
     pub(crate) turns: Option<u64>,
+}
+
+/// What is done of a script.
+#[derive(Clone, Copy, Debug, PartialEq, Eq)]
+pub(crate) enum Task {
+    /// Its runs are made, and each table is written.
+    Run,
+    /// It is checked, and its canonical text is written.
+    Check,
+}
+
+/// A script, and what is done of it.
+#[derive(Debug, Drop)]
+pub(crate) struct Asked {
+    /// The name of the script's file, which is not empty.
+    pub(crate) script: Text,
+    pub(crate) task: Task,
 }
 
 /// A number has at most so many digits, leading zeros among them.
@@ -189,5 +206,22 @@ pub(crate) fn read_words(alloc: Global, words: &[String]) -> Result<Option<Reque
     match matches(alloc, words)? {
         Some(matches) => request_from(alloc, &matches),
         None => Ok(None),
+    }
+}
+
+/// The script that a request asks for, and what is done of it, where requests of its kind are built.
+pub(crate) fn asked_of(request: Request) -> Option<Asked>
+    ensures { result ≡ asked_of request }
+{
+    match (request.source, request.mode, request.turns) {
+        (Source::Script(script), Mode::Run, None) => Some(Asked {
+            script,
+            task: Task::Run,
+        }),
+        (Source::Script(script), Mode::Check, None) => Some(Asked {
+            script,
+            task: Task::Check,
+        }),
+        _ => None,
     }
 }

@@ -2,17 +2,22 @@
 
 ghost use Rattle.std.specs.Prelude.{◌≡◌, ◌≤◌};
 
+mod check_mode;
 mod command_line;
 mod data_files;
 mod first_path;
 mod language;
 mod large_files;
+mod refusals;
 mod script_form;
+mod statements;
+mod views;
 
 use crate::{Contents, Ends, Left, run_memory};
 use std::marker::Brand;
 use std::sync::ledger::Blank;
 use std::test::Fail;
+use surge_cli::Status;
 
 const NODES: &str = "id\n1\n2\n3\n4\n";
 
@@ -58,4 +63,11 @@ fn sure(piece: usize) -> Ends
         write: None,
         report: None,
     }
+}
+
+// Whether the script `s` over these files is done, and this is printed.
+fn prints(rt: &HostRuntime, files: &Contents<'_>, tables: &str) -> Result<bool, Fail> {
+    let left = row(rt, files, sure(4096))?;
+    let is_silent = left.status == Status::Done && left.err.is_empty();
+    Ok(is_silent && left.out.as_slice() == tables.as_bytes())
 }

@@ -1,5 +1,5 @@
 -- From the relation to the function: which answer a plain run has.
-use Rattle.std.proofs.Common.{◌≡◌, ◌≢◌, ◌∙◌, ◌+◌, ◌<◌, ◌≤◌, ℕ, zero, suc, ℤ, true, false, List, [], ◌∷◌, Option, Some, None, length, map, sym, ap, refl, inl, inr, add-one, arith}
+use Rattle.std.proofs.Common.{◌≡◌, ◌≢◌, ◌∙◌, ◌+◌, ◌<◌, ◌≤◌, ℕ, zero, suc, ℤ, true, false, List, [], ◌∷◌, Option, Some, None, length, map, sym, ap, subst, refl, inl, inr, add-one, arith}
 use Rattle.std.proofs.lemmas.Bool.{cases_order, and_parts, and_from, cond-true, cond-false, false_from_ne_true, false≢true}
 use Rattle.std.proofs.lemmas.Bool.Decides.{Decides-int_eq}
 use Rattle.std.proofs.lemmas.List.FromFn.{length-map-range_with_len}
@@ -47,6 +47,9 @@ same_values_from vs ws e = ap (λ (us : List Val). same_values us ws) e ∙ same
 other_values : (vs ws : List Val) → vs ≢ ws → same_values vs ws ≡ false
 other_values vs ws ne = false_from_ne_true _ (λ e. ne (same_values_is vs ws e))
 
+lone_from : (o o' : Outcome) (vs vs' : List Val) → o ≡ o' → vs ≡ vs' → Path Lone (record { outcome = o; values = vs }) (record { outcome = o'; values = vs' })
+lone_from o o' vs vs' e f = cc
+
 module _ (values : ℕ → List Val) where
   -- the first round that settles is found
   found : (n k r : ℕ) → k ≤ r → r < k + n → values (r + 1) ≡ values r → ((j : ℕ) → j < r → values (j + 1) ≢ values j) → first_settled values n k ≡ Some r
@@ -68,12 +71,14 @@ module _ (values : ℕ → List Val) where
   outcome_answer n (outcome.Settled r) vs h =
       ap (λ (us : List Val). record { outcome = outcome.Settled r; values = us }) h.1
       ∙ ap (λ (o : Option ℕ). settled_at values o) (sym (found n 0 r (omega arith) (let low = h.0.within in omega arith) h.0.settled h.0.first))
+  outcome_answer n (outcome.After r) vs h = absurd h
   outcome_answer n outcome.Unsettled vs h =
       ap (λ (us : List Val). record { outcome = outcome.Unsettled; values = us }) h.1
       ∙ ap (λ (o : Option ℕ). settled_at values o) (sym (missing n 0 (λ j low. h.0 j (omega arith))))
 
   answer_from_is : (limit : Rounds) (l : Lone) → IsAnswerFrom values limit l → l ≡ answer_from values limit
   answer_from_is (rounds.Within n) l h = outcome_answer n l.outcome l.values h
+  answer_from_is (rounds.For n) l h = lone_from _ _ _ _ h.0 h.1
 
 -- what meets the relation is the answer
 pub answer_is : (answer : Answer) (p : Program) (graph : GraphData) (arcs : List Arc) (limit : Rounds) (l : Lone) → IsAnswer answer p graph arcs limit l → l ≡ answer_of answer p graph arcs limit
@@ -98,7 +103,12 @@ length-lone answer p graph arcs (suc r) = length-map-range_with_len (next_of ans
 
 outcome_size : (answer : Answer) (p : Program) (graph : GraphData) (arcs : List Arc) (n : ℕ) (o : Outcome) (vs : List Val) → OutcomeIs (lone answer p graph arcs) n o vs → HasAllValuesAt graph o vs
 outcome_size answer p graph arcs n (outcome.Settled r) vs h = ap (λ (us : List Val). length us) h.1 ∙ length-lone answer p graph arcs r
+outcome_size answer p graph arcs n (outcome.After r) vs h = absurd h
 outcome_size answer p graph arcs n outcome.Unsettled vs h = tt
+
+after_size : (answer : Answer) (p : Program) (graph : GraphData) (arcs : List Arc) (n : ℕ) (o : Outcome) (vs : List Val) → o ≡ outcome.After n → vs ≡ lone answer p graph arcs n → HasAllValuesAt graph o vs
+after_size answer p graph arcs n o vs e f = subst (λ (x : Outcome). HasAllValuesAt graph x vs) (sym e) (ap (λ (us : List Val). length us) f ∙ length-lone answer p graph arcs n)
 
 pub answer_size : (answer : Answer) (p : Program) (graph : GraphData) (arcs : List Arc) (limit : Rounds) (l : Lone) → IsAnswer answer p graph arcs limit l → HasAllValues graph l
 answer_size answer p graph arcs (rounds.Within n) l h = outcome_size answer p graph arcs n l.outcome l.values h
+answer_size answer p graph arcs (rounds.For n) l h = after_size answer p graph arcs n l.outcome l.values h.0 h.1

@@ -14,9 +14,10 @@ use Rattle.vertex_lang.specs.declared.lone.Lone.{Lone}
 use Rattle.vertex_lang.specs.Expressions.{Answer}
 use Rattle.vertex_lang.specs.Rounds.{lone}
 
--- how many rounds are allowed
+-- how many rounds are allowed, or asked for
 abbrev pub number_of : Rounds → ℕ
 number_of (rounds.Within n) = n
+number_of (rounds.For n) = n
 
 -- ---- as a function
 
@@ -44,6 +45,7 @@ settled_at values (Some r) = record { outcome = outcome.Settled r; values = valu
 -- the answer of a run, given the values after each round
 abbrev pub answer_from : (ℕ → List Val) → Rounds → Lone
 answer_from values (rounds.Within n) = settled_at values (first_settled values n 0)
+answer_from values (rounds.For n) = record { outcome = outcome.After n; values = values n }
 
 -- the answer of the plain run of a program over these arcs
 abbrev pub answer_of : Answer → Program → GraphData → List Arc → Rounds → Lone
@@ -61,21 +63,29 @@ pub record SettlesAt (values : ℕ → List Val) (n r : ℕ) : Type 0 where
 abbrev pub NeverSettles : (ℕ → List Val) → ℕ → Type 0
 NeverSettles values n = (k : ℕ) → k < n → values (k + 1) ≢ values k
 
+-- the outcome of at most n rounds
 abbrev pub OutcomeIs : (ℕ → List Val) → ℕ → Outcome → List Val → Type 0
 OutcomeIs values n (outcome.Settled r) last = SettlesAt values n r × (last ≡ values r)
+OutcomeIs values n (outcome.After r) last = ⊥
 OutcomeIs values n outcome.Unsettled last = NeverSettles values n × (last ≡ [])
+
+-- the outcome of exactly n rounds
+abbrev pub IsAfter : (ℕ → List Val) → ℕ → Lone → Type 0
+IsAfter values n l = (l.outcome ≡ outcome.After n) × (l.values ≡ values n)
 
 abbrev pub IsAnswerFrom : (ℕ → List Val) → Rounds → Lone → Type 0
 IsAnswerFrom values (rounds.Within n) l = OutcomeIs values n l.outcome l.values
+IsAnswerFrom values (rounds.For n) l = IsAfter values n l
 
 abbrev pub IsAnswer : Answer → Program → GraphData → List Arc → Rounds → Lone → Type 0
 IsAnswer answer p graph arcs limit l = IsAnswerFrom (lone answer p graph arcs) limit l
 
 -- ---- its size
 
--- where the run settled there is a value for each node
+-- where the run settled, or went through all its rounds, there is a value for each node
 abbrev pub HasAllValuesAt : GraphData → Outcome → List Val → Type 0
 HasAllValuesAt graph (outcome.Settled r) last = length last ≡ length graph.ids
+HasAllValuesAt graph (outcome.After r) last = length last ≡ length graph.ids
 HasAllValuesAt graph outcome.Unsettled last = Unit {0}
 
 abbrev pub HasAllValues : GraphData → Lone → Type 0

@@ -51,4 +51,5 @@ TellsChange changed new old = MatchBool changed (new ≢ old) (new ≡ old)
 -- the outcome of at most n rounds, and the values at the end where it is settled
 abbrev pub RunsTo : (ℕ → List Val) → ℕ → Outcome → List Val → Type 0
 RunsTo values n (outcome.Settled r) last = SettlesAt values n r × (last ≡ values r)
+RunsTo values n (outcome.After r) last = ⊥
 RunsTo values n outcome.Unsettled last = NeverSettles values n

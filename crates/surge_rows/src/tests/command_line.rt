@@ -43,6 +43,7 @@ fn a_number_is_1_to_20_digits_below_2_to_the_64(rt: HostRuntime) -> Result<(), F
     assert!(rt; is_usage(&rt, &["surge", "--script", "s", "--turns", ""])?);
     assert!(rt; is_not_built(&rt, &["surge", "--sample", "18446744073709551615"])?);
     assert!(rt; is_not_built(&rt, &["surge", "--sample", "00000000000000000001"])?);
+    assert!(rt; is_not_built(&rt, &["surge", "--sample", "1", "--mode", "check"])?);
     Ok(())
 }
 
@@ -50,7 +51,6 @@ fn a_number_is_1_to_20_digits_below_2_to_the_64(rt: HostRuntime) -> Result<(), F
 fn the_mode_is_one_of_three(rt: HostRuntime) -> Result<(), Fail> {
     assert!(rt; is_usage(&rt, &["surge", "--script", "s", "--mode", "fly"])?);
     assert!(rt; is_usage(&rt, &["surge", "--script", "s", "--mode", "Run"])?);
-    assert!(rt; is_not_built(&rt, &["surge", "--script", "s", "--mode", "check"])?);
     assert!(rt; is_not_built(&rt, &["surge", "--script", "s", "--mode", "summary"])?);
     Ok(())
 }
@@ -77,6 +77,7 @@ fn nothing_else_is_taken(rt: HostRuntime) -> Result<(), Fail> {
 fn turns_are_not_built(rt: HostRuntime) -> Result<(), Fail> {
     assert!(rt; is_not_built(&rt, &["surge", "--script", "s", "--turns", "7"])?);
     assert!(rt; is_not_built(&rt, &["surge", "--turns=7", "--script=s", "--mode=run"])?);
+    assert!(rt; is_not_built(&rt, &["surge", "--turns=7", "--script=s", "--mode=check"])?);
     Ok(())
 }
 

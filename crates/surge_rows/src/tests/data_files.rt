@@ -3,7 +3,7 @@
 use super::{EDGES, NODES, SCRIPT, TABLES, row, sure, whole};
 use crate::Contents;
 use std::test::Fail;
-use surge_cli::{DataFault, DataFile, DataKind, FileRole, Status, Unbuilt};
+use surge_cli::{DataFault, DataFile, DataKind, FileRole, ScriptFault, Status};
 
 const EDGES_OF_TEXTS: &str = "src,dst,y:str\n1,2,1\n";
 
@@ -221,7 +221,7 @@ fn answer(rt: &HostRuntime, script: &str, nodes: &str, edges: &str) -> Result<St
 #[test]
 fn a_fault_of_the_data_stands_between_those_of_the_script(rt: HostRuntime) -> Result<(), Fail> {
     let unread = answer(&rt, "load graph", "x\n", EDGES)?;
-    assert_eq!(rt; unread, Status::NotBuilt(Unbuilt::Script));
+    assert_eq!(rt; unread, Status::Script(ScriptFault::Syntax(1, 11)));
     let unchecked = answer(&rt, SCRIPT, NODES, "src,dst,z:int\n1,9,1\n")?;
     assert_eq!(rt;
         unchecked,
@@ -231,11 +231,13 @@ fn a_fault_of_the_data_stands_between_those_of_the_script(rt: HostRuntime) -> Re
 }
 
 #[test]
-fn a_predicate_compares_a_column_of_numbers(rt: HostRuntime) -> Result<(), Fail> {
-    for edges in [EDGES_OF_TEXTS, EDGES_OF_TRUTHS, EDGES_WITHOUT_Y] {
+fn a_number_is_compared_with_a_column_of_numbers(rt: HostRuntime) -> Result<(), Fail> {
+    for edges in [EDGES_OF_TEXTS, EDGES_OF_TRUTHS] {
         let status = answer(&rt, SCRIPT, NODES, edges)?;
-        assert_eq!(rt; status, Status::NotBuilt(Unbuilt::Script));
+        assert_eq!(rt; status, Status::Script(ScriptFault::WrongType(2)));
     }
+    let status = answer(&rt, SCRIPT, NODES, EDGES_WITHOUT_Y)?;
+    assert_eq!(rt; status, Status::Script(ScriptFault::UnknownProperty(2)));
     Ok(())
 }
 

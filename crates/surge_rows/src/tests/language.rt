@@ -1,5 +1,6 @@
-//! The examples of `docs/LANGUAGE.md`: each is a script, or has the fault that stands beside it.
+//! The examples of `docs/LANGUAGE.md`: each is a script, or has the fault that stands beside it; and the script that is run.
 
+use super::{prints, whole};
 use gvdl_parser::{ParseFault, ScriptFault, parse};
 use std::alloc::Global;
 use std::test::Fail;
@@ -91,5 +92,26 @@ fn the_examples_of_faults_stand_at_their_places(rt: HostRuntime) -> Result<(), F
         assert_eq!(rt; found.1, line, "at {text}");
         assert_eq!(rt; found.2, column, "at {text}");
     }
+    Ok(())
+}
+
+const NODES: &str = "id,city:str\n1,Berlin\n2,Paris\n3,Rome\n4,Paris\n";
+
+const EDGES: &str =
+    "src,dst,duration:int,year:int\n1,2,7,2010\n2,3,12,2015\n1,3,34,2019\n3,4,1,2019\n";
+
+const SCRIPT: &str =
+    "load graph G nodes 'n4.csv' edges 'e1.csv';\ncreate view Long on G edges where duration >= 5;\ncreate view collection Years on Long [w: window year from 2010 to 2015 width 5 step 5], [all: true];\ncreate view collection C on G [paris: dst.city = 'Paris'], [early: not year >= 2019];\nrun hops(1) on Years within 10 rounds;\nrun hops(3) on C for 2 rounds;\n";
+
+const YEARS: &str =
+    "view Years.w-1 hops(1) settled 1\n1,0\n2,1\n3,-\n4,-\nend\nview Years.w-2 hops(1) settled 1\n1,0\n2,-\n3,1\n4,-\nend\nview Years.all hops(1) settled 1\n1,0\n2,1\n3,1\n4,-\nend\n";
+
+const CITIES: &str =
+    "view C.paris hops(3) after 2\n1,-\n2,-\n3,0\n4,1\nend\nview C.early hops(3) after 2\n1,-\n2,-\n3,0\n4,-\nend\n";
+
+#[test]
+fn the_script_that_is_run_prints_its_tables(rt: HostRuntime) -> Result<(), Fail> {
+    let tables = format!(in rt.alloc(); "{YEARS}{CITIES}")?;
+    assert!(rt; prints(&rt, &whole(SCRIPT, NODES, EDGES), tables.as_str())?);
     Ok(())
 }

@@ -1,10 +1,10 @@
 -- What was read so far is a front of the file.
-use Rattle.std.proofs.Common.{◌≡◌, ◌∙◌, ◌<◌, ◌≤◌, ℕ, ◌+◌, ◌-◌, length, List, [], ◌∷◌, ◌++◌, take, ap, sym, subst, refl, arith, vec_len, Option, Result, Ok, Err, is_ok, Bool, true, false}
+use Rattle.std.proofs.Common.{◌≡◌, ◌∙◌, ℕ, length, List, ◌++◌, take, sym, subst, arith, is_ok, Bool, true, false}
 use Rattle.surge_outside.specs.Held.{Fetches}
 use Rattle.std.specs.Prelude.{if◌then◌else◌}
 use Rattle.surge_outside.specs.declared.files.Fetched.{Fetched}
 use Rattle.surge_outside.specs.declared.files.Fetched.TheVariants as fetched
-use Rattle.surge_cli.specs.Reading.{Told, IsToldFront, IsLonger}
+use Rattle.surge_cli.specs.Reading.{IsToldFront}
 use Rattle.surge_cli.proofs.Fronts.{piece_read}
 use Rattle.surge_cli.proofs.reading.take_piece.Goals as goal
 

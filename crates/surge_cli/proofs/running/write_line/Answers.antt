@@ -1,5 +1,5 @@
 -- The line, or a front of it.
-use Rattle.std.proofs.Common.{◌≡◌, ◌∙◌, List, ℕ, subst, refl, ap, Err}
+use Rattle.std.proofs.Common.{◌≡◌, ◌∙◌, List, ℕ, subst, ap, Err}
 use Rattle.surge_outside.specs.Written.{appended, GrewByFront}
 use Rattle.surge_cli.proofs.Endings.{reported, reported_front}
 use Rattle.surge_cli.proofs.running.write_line.Goals as goal

@@ -1,11 +1,11 @@
 -- One more edge, kept or left out.
-use Rattle.std.proofs.Common.{◌≡◌, ◌∙◌, ◌≤◌, ◌<◌, ◌++◌, ◌∷◌, [], ℕ, List, length, All, vec_len, ap, sym, subst, arith, Vec, true, false, cond, is_ok}
+use Rattle.std.proofs.Common.{◌≡◌, ◌∙◌, ◌<◌, ◌++◌, ◌∷◌, [], ℕ, List, length, All, vec_len, ap, sym, subst, arith, Vec}
 use Rattle.std.proofs.lemmas.List.Elements.{All-append}
 use Rattle.graph_model.specs.declared.number.EdgeNo.{EdgeNo}
-use Rattle.surge_cli.specs.Output.{edge, view_edges}
-use Rattle.surge_cli.proofs.ViewEdges.{kept, kept_more, left_out, kept_all, one_within}
+use Rattle.surge_cli.specs.Output.{edge}
+use Rattle.surge_cli.proofs.ViewEdges.{kept_more, left_out, kept_all, one_within}
 use Rattle.surge_cli.proofs.session.view_edges.Goals as goal
-use Rattle.surge_cli.proofs.session.view_edges.Goals.{then-holds+in_ok-push, else-holds}
+use Rattle.surge_cli.proofs.session.view_edges.Goals.{then-is_in+in_ok-push, else-is_in}
 
 pub returns-clause-edges : goal.returns-clause-edges
 returns-clause-edges c = c.loop-number.invariant.edges ∙ kept_all c.args.graph.now c.args.rule.now c.loop-number.number (omega (arith, c.loop-number.invariant.all, c.loop-number-test.false))
@@ -17,25 +17,25 @@ loop-number-preserved c =
     let rule = c.args.rule.now in
     let number : ℕ = c.loop-number.number in
     let lt : number < length graph.ends = omega (arith, c.loop-number-test.true, invariant.all) in
-    elim c.if-holds.branch [
-      | then-holds+in_ok-push w ↦
-          let same : c.if-holds.edges ≡ w.push.new.self = w.edges-is in
-          let grown : c.if-holds.edges.items ≡ c.loop-number.edges.items ++ edge number ∷ [] = ap (λ (v : Vec EdgeNo _). v.items) same ∙ w.in_ok-push.ensures.items in
+    elim c.if-is_in.branch [
+      | then-is_in+in_ok-push w ↦
+          let same : c.if-is_in.edges ≡ w.push.new.self = w.edges-is in
+          let grown : c.if-is_in.edges.items ≡ c.loop-number.edges.items ++ edge number ∷ [] = ap (λ (v : Vec EdgeNo _). v.items) same ∙ w.in_ok-push.ensures.items in
           record {
             all = invariant.all;
             limit = invariant.limit;
-            edges = kept_more graph rule number c.loop-number.edges.items c.if-holds.edges.items lt (sym w.if-holds.true ∙ c.holds.ensures) invariant.edges grown;
+            edges = kept_more graph rule number c.loop-number.edges.items c.if-is_in.edges.items lt (sym w.if-is_in.true ∙ c.rule_holds-is_in.ensures) invariant.edges grown;
             within = subst (λ (x : List EdgeNo). All (λ (e : EdgeNo). e.0 < length graph.ends) x) (sym grown)
                 (All-append (λ (e : EdgeNo). e.0 < length graph.ends) c.loop-number.edges.items (edge number ∷ []) invariant.within (one_within (length graph.ends) number lt));
             few = omega (arith, ap (λ (v : Vec EdgeNo _). vec_len v) same, w.in_ok-push.ensures.len, invariant.few);
           }
-      | else-holds w ↦
-          let same : c.if-holds.edges ≡ c.loop-number.edges = w.edges-is in
-          let items : c.if-holds.edges.items ≡ c.loop-number.edges.items = ap (λ (v : Vec EdgeNo _). v.items) same in
+      | else-is_in w ↦
+          let same : c.if-is_in.edges ≡ c.loop-number.edges = w.edges-is in
+          let items : c.if-is_in.edges.items ≡ c.loop-number.edges.items = ap (λ (v : Vec EdgeNo _). v.items) same in
           record {
             all = invariant.all;
             limit = invariant.limit;
-            edges = left_out graph rule number c.if-holds.edges.items lt (sym w.if-holds.false ∙ c.holds.ensures) (items ∙ invariant.edges);
+            edges = left_out graph rule number c.if-is_in.edges.items lt (sym w.if-is_in.false ∙ c.rule_holds-is_in.ensures) (items ∙ invariant.edges);
             within = subst (λ (x : List EdgeNo). All (λ (e : EdgeNo). e.0 < length graph.ends) x) (sym items) invariant.within;
             few = omega (arith, ap (λ (v : Vec EdgeNo _). vec_len v) same, invariant.few);
           }

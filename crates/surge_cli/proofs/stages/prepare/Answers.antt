@@ -1,59 +1,45 @@
--- What is expected of the script that the words ask for is expected of the words.
-use Rattle.std.proofs.Common.{◌≡◌, ◌∙◌, List, ℕ, Option, Result, Ok, Err, Some, map, string_bytes, subst, sym, ap}
+-- What is expected of what the words ask for is expected of the words.
+use Rattle.std.proofs.Common.{Option, Result, Ok, Err, Some, map, string_bytes, subst, sym}
 use Rattle.std.specs.Prelude.{IfErr, IfOk}
-use Rattle.graph_model.specs.GraphData.{GraphData}
-use Rattle.surge_cli.specs.declared.plan.Plan.{Plan}
+use Rattle.surge_cli.specs.declared.words.Asked.{Asked}
 use Rattle.surge_cli.specs.declared.status.Status.{Status}
+use Rattle.surge_cli.specs.declared.job.Job.{Job}
 use Rattle.surge_cli.specs.Words.{script_asked}
 use Rattle.surge_cli.specs.Answers.{OfWords}
-use Rattle.surge_cli.specs.Expected.{Held, Expects, ExpectsOfName}
-use Rattle.surge_cli.specs.Stages.{Refuses, Admits, IsLater, IsNamed, StopsWords}
-use Rattle.surge_cli.proofs.Endings.{named_words}
-use Rattle.surge_cli.proofs.Expecting.{asked_refuses, asked_admits, words_refuse, words_stop}
+use Rattle.surge_cli.specs.Stages.{IsStop, IsStage, IsNamed}
+use Rattle.surge_cli.proofs.Meeting.{words_go_on, words_stop}
+use Rattle.surge_cli.proofs.Endings.{stage_words, stage_stops, words_stops, words_told}
 use Rattle.surge_cli.proofs.stages.prepare.Goals as goal
 
-admitted : (r : Result (GraphData × Plan) Status) (held : Option Held) (words : List (List ℕ)) (asked : Option (Option (List ℕ))) → script_asked words ≡ asked
-    → IfOk r (λ p. Admits (λ files. ExpectsOfName files asked) held p.1 p.0) → IfOk r (λ p. Admits (λ files. Expects files words) held p.1 p.0)
-admitted (Ok p) held words asked is h = asked_admits held words asked p.1 p.0 is h
-admitted (Err s) held words asked is h = h
+of_stage : (r : Result Job Status) (asked : Option (Option Asked)) → IsNamed asked → IfErr r IsStage → IfErr r (OfWords asked)
+of_stage (Ok job) asked named h = h
+of_stage (Err s) asked named h = stage_words asked s named h
 
-refused : (r : Result (GraphData × Plan) Status) (held : Option Held) (words : List (List ℕ)) (asked : Option (Option (List ℕ))) → script_asked words ≡ asked
-    → IfErr r (Refuses (λ files. ExpectsOfName files asked) held) → IfErr r (Refuses (λ files. Expects files words) held)
-refused (Ok p) held words asked is h = h
-refused (Err s) held words asked is h = asked_refuses held words asked s is h
+stop : (r : Result Job Status) → IfErr r IsStage → IfErr r IsStop
+stop (Ok job) h = h
+stop (Err s) h = stage_stops s h
 
-later : (r : Result (GraphData × Plan) Status) (asked : Option (Option (List ℕ))) → IsNamed asked → IfErr r IsLater → IfErr r (OfWords asked)
-later (Ok p) asked named h = h
-later (Err s) asked named h = named_words asked s named h
-
-named : (r : Result (GraphData × Plan) Status) (asked : Option (Option (List ℕ))) → IsNamed asked → IfOk r (λ p. IsNamed asked)
-named (Ok p) asked h = h
+named : (r : Result Job Status) (asked : Option (Option Asked)) → IsNamed asked → IfOk r (λ job. IsNamed asked)
+named (Ok job) asked h = h
 named (Err s) asked h = tt
 
-pub returns-in-Ok-clause-ok : goal.returns-in-Ok-clause-ok
-returns-in-Ok-clause-ok g c =
-    let words = map string_bytes c.args.words.now in
-    let is : script_asked words ≡ Some (Some c.as_str.result.now) = c.in-Ok.ensures.ok ∙ ap (λ (n : List ℕ). Some (Some n)) (sym c.as_str.ensures) in
-    admitted c.plan_named.result (g.F.Files.held c.args.files.now) words (Some (Some c.as_str.result.now)) is c.plan_named.ensures.ok
+pub returns-in-Ok-clause-told : goal.returns-in-Ok-clause-told
+returns-in-Ok-clause-told g c = words_go_on (g.F.Files.held c.args.files.now) (map string_bytes c.args.words.now) (Some (Some c.in-Ok.asked)) c.job_asked.result c.in-Ok.ensures.ok c.job_asked.ensures.told
 
-pub returns-in-Ok-clause-err : goal.returns-in-Ok-clause-err
-returns-in-Ok-clause-err g c =
-    let words = map string_bytes c.args.words.now in
-    let is : script_asked words ≡ Some (Some c.as_str.result.now) = c.in-Ok.ensures.ok ∙ ap (λ (n : List ℕ). Some (Some n)) (sym c.as_str.ensures) in
-    refused c.plan_named.result (g.F.Files.held c.args.files.now) words (Some (Some c.as_str.result.now)) is c.plan_named.ensures.err
+pub returns-in-Ok-clause-stop : goal.returns-in-Ok-clause-stop
+returns-in-Ok-clause-stop g c = stop c.job_asked.result c.job_asked.ensures.stage
 
 pub returns-in-Ok-clause-named : goal.returns-in-Ok-clause-named
-returns-in-Ok-clause-named g c =
-    let words = map string_bytes c.args.words.now in
-    named c.plan_named.result (script_asked words) (subst (λ (a : Option (Option (List ℕ))). IsNamed a) (sym c.in-Ok.ensures.ok) tt)
+returns-in-Ok-clause-named g c = named c.job_asked.result (script_asked (map string_bytes c.args.words.now)) (subst (λ (a : Option (Option Asked)). IsNamed a) (sym c.in-Ok.ensures.ok) tt)
 
 pub returns-in-Ok-clause-words : goal.returns-in-Ok-clause-words
-returns-in-Ok-clause-words g c =
-    let words = map string_bytes c.args.words.now in
-    later c.plan_named.result (script_asked words) (subst (λ (a : Option (Option (List ℕ))). IsNamed a) (sym c.in-Ok.ensures.ok) tt) c.plan_named.ensures.later
+returns-in-Ok-clause-words g c = of_stage c.job_asked.result (script_asked (map string_bytes c.args.words.now)) (subst (λ (a : Option (Option Asked)). IsNamed a) (sym c.in-Ok.ensures.ok) tt) c.job_asked.ensures.stage
 
-pub returns-in-Err-clause-err : goal.returns-in-Err-clause-err
-returns-in-Err-clause-err g c = words_refuse (g.F.Files.held c.args.files.now) (map string_bytes c.args.words.now) c.in-Err.status c.in-Err.ensures.err
+pub returns-in-Err-clause-told : goal.returns-in-Err-clause-told
+returns-in-Err-clause-told g c = words_stop (g.F.Files.held c.args.files.now) (map string_bytes c.args.words.now) c.in-Err.status c.in-Err.ensures.err
+
+pub returns-in-Err-clause-stop : goal.returns-in-Err-clause-stop
+returns-in-Err-clause-stop g c = words_stops (map string_bytes c.args.words.now) c.in-Err.status c.in-Err.ensures.err
 
 pub returns-in-Err-clause-words : goal.returns-in-Err-clause-words
-returns-in-Err-clause-words g c = words_stop (map string_bytes c.args.words.now) c.in-Err.status c.in-Err.ensures.err
+returns-in-Err-clause-words g c = words_told (map string_bytes c.args.words.now) c.in-Err.status c.in-Err.ensures.err

@@ -1,6 +1,6 @@
 -- One more line.
-use Rattle.std.proofs.Common.{◌≡◌, ◌∙◌, ◌++◌, ◌<◌, length, string_bytes, List, ℕ, ap, sym, arith, get_or}
-use Rattle.graph_model.specs.GraphData.{nodes_by_id, id_of}
+use Rattle.std.proofs.Common.{◌∙◌, ◌++◌, string_bytes, ℕ, ap, arith, get_or}
+use Rattle.graph_model.specs.GraphData.{nodes_by_id}
 use Rattle.graph_model.specs.declared.value.Val.{Val}
 use Rattle.graph_model.specs.declared.value.Val.TheVariants.{Nil}
 use Rattle.surge_cli.specs.TableText.{node_line, value_line}

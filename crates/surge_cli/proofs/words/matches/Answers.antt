@@ -1,5 +1,5 @@
 -- An error is one of the words, or of memory.
-use Rattle.std.proofs.Common.{◌≡◌, ◌∙◌, sym, map, string_bytes}
+use Rattle.std.proofs.Common.{◌∙◌, map, string_bytes}
 use Rattle.clap.specs.Words.{app_of}
 use Rattle.surge_cli.proofs.CommandLine.{refused}
 use Rattle.surge_cli.proofs.words.matches.Goals as goal

@@ -1,5 +1,5 @@
 -- What `parse` gives of few digits.
-use Rattle.std.proofs.Common.{rules, ◌≡◌, ◌∙◌, sym, arith}
+use Rattle.std.proofs.Common.{rules, ◌∙◌, arith}
 use Rattle.surge_cli.proofs.CommandLine.{number_read}
 use Rattle.surge_cli.proofs.words.number_of.Goals as goal
 

@@ -1,5 +1,5 @@
 -- The first value is that of the option's row.
-use Rattle.std.proofs.Common.{◌≡◌, ◌∙◌}
+use Rattle.std.proofs.Common.{◌∙◌}
 use Rattle.clap.specs.Words.{found_of}
 use Rattle.clap.proofs.WalkLemmas.{first_value-rows}
 use Rattle.surge_cli.proofs.words.text_of.Goals as goal

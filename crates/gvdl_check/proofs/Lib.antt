@@ -1,0 +1,13 @@
+pub mod Judged
+pub mod Turns
+pub mod NameFacts
+pub mod PredicateCases
+pub mod Through
+pub mod RuleFacts
+pub mod ViewFacts
+pub mod PlanFacts
+pub mod PlanAnswers
+pub mod WindowFacts
+pub mod SizeFacts
+pub mod Growth
+pub mod PlanSteps

@@ -1,0 +1,27 @@
+-- One item more.
+use Rattle.std.proofs.Common.{◌∙◌, drop}
+use Rattle.std.proofs.lemmas.Result.{err_from_is_err_and}
+use Rattle.gvdl_check.specs.Judging.{in_turn}
+use Rattle.gvdl_check.specs.Views.{item_added, views_of}
+use Rattle.gvdl_check.proofs.Judged.{refused_as}
+use Rattle.gvdl_check.proofs.Turns.{turn_on, turn_stops, turn_done}
+use Rattle.gvdl_check.proofs.item.views_of.Goals as goal
+
+pub returns-in_err-add_item : goal.returns-in_err-add_item
+returns-in_err-add_item c =
+    let add = item_added c.args.graph.now c.args.base.now in
+    let i = c.loop-item.item-index in
+    let e = c.in_err-add_item.field-0.0 in
+    let p = err_from_is_err_and c.from_residual.result c.from_residual.ensures.1 in
+    rw (p.1, p.2) (record {
+      told = refused_as (views_of c.args.graph.now c.args.base.now c.args.items.now) (in_turn add c.loop-item.views (drop i c.args.items.now)) e c.loop-item.invariant
+          (turn_stops add c.loop-item.views c.args.items.now i c.item-item.result e c.loop-item-test.true c.item-item.is c.in_err-add_item.ensures.told);
+    })
+
+pub loop-item-preserved : goal.loop-item-preserved
+loop-item-preserved c =
+    c.loop-item.invariant ∙ turn_on (item_added c.args.graph.now c.args.base.now) c.loop-item.views c.add_item.new.views c.args.items.now c.loop-item.item-index c.item-item.result c.loop-item-test.true c.item-item.is c.in_ok-add_item.ensures.told
+
+pub returns : goal.returns
+returns c =
+    record { told = c.loop-item.invariant ∙ turn_done (item_added c.args.graph.now c.args.base.now) c.loop-item.views c.args.items.now c.loop-item.item-index c.loop-item-test.false }

@@ -1,0 +1,48 @@
+-- The names of a script and what they mean.
+use Rattle.std.specs.Prelude.{ℕ, List, [], ◌∷◌, Option, None, Some, Ok, Err, if◌then◌else◌, bytes_eq}
+use Rattle.edge_predicates.specs.declared.pred.Pred.{Pred}
+use Rattle.gvdl_check.specs.declared.refusal.Refusal.TheVariants as refusal
+use Rattle.gvdl_check.specs.declared.names.BuiltIn.{BuiltIn}
+use Rattle.gvdl_check.specs.declared.names.Meaning.{Meaning}
+use Rattle.gvdl_check.specs.declared.names.Meaning.TheVariants as meaning
+use Rattle.gvdl_check.specs.Judging.{Judged}
+
+-- names, each with its meaning
+abbrev pub NameList : Type 0
+NameList = List (List ℕ × Meaning)
+
+-- what a name stands for, where it is taken
+abbrev pub meaning_of : NameList → List ℕ → Option Meaning
+meaning_of [] name = None
+meaning_of (taken ∷ more) name = if bytes_eq name taken.0 then Some taken.1 else meaning_of more name
+
+-- a name may be taken once
+abbrev pub as_new : Option Meaning → Judged (Unit {0})
+as_new None = Ok tt
+as_new (Some m) = Err refusal.RepeatedName
+
+abbrev pub new_name : NameList → List ℕ → Judged (Unit {0})
+new_name names name = as_new (meaning_of names name)
+
+-- the predicates of a graph or single view
+abbrev pub as_base : Option Meaning → Judged (List Pred)
+as_base (Some (meaning.Base rules)) = Ok rules
+as_base _ = Err refusal.UnknownName
+
+abbrev pub base_of : NameList → List ℕ → Judged (List Pred)
+base_of names name = as_base (meaning_of names name)
+
+-- the place of a collection
+abbrev pub as_collection : Option Meaning → Judged ℕ
+as_collection (Some (meaning.Collection place)) = Ok place
+as_collection _ = Err refusal.UnknownName
+
+abbrev pub collection_of : NameList → List ℕ → Judged ℕ
+collection_of names name = as_collection (meaning_of names name)
+
+abbrev pub as_program : Option Meaning → Judged BuiltIn
+as_program (Some (meaning.Program program)) = Ok program
+as_program _ = Err refusal.UnknownName
+
+abbrev pub program_of : NameList → List ℕ → Judged BuiltIn
+program_of names name = as_program (meaning_of names name)

@@ -1,0 +1,130 @@
+//! The names of a script and what they mean.
+
+ghost use Rattle.std.specs.Prelude.{◌≡◌, ◌++◌, ◌∷◌, [], None, option_copied, OnOk, IfOk};
+ghost use Rattle.gvdl_check.specs.Judging.{Tells};
+ghost use Rattle.gvdl_check.specs.Names.{meaning_of, new_name, base_of, collection_of, program_of};
+
+use crate::copies::copied_preds;
+use crate::refusal::{Refusal, Stop};
+use edge_predicates::Pred;
+use indexmap::IndexMap;
+use std::alloc::Global;
+use std::marker::Model;
+use surge_outside::{List, NoMemory};
+
+/// A built-in program.
+#[derive(Clone, Copy, Debug, PartialEq, Eq)]
+pub(crate) enum BuiltIn {
+    Hops,
+    Dist,
+    Wcc,
+    Pagerank,
+}
+
+/// What a name stands for.
+#[derive(Debug, Drop)]
+pub(crate) enum Meaning {
+    Program(BuiltIn),
+    /// The graph or a single view, with the predicates of all views down to the graph.
+    Base(List<Pred>),
+    /// The collection with this place.
+    Collection(u32),
+}
+
+/// The names that are taken, in the order in which they were.
+#[derive(Drop)]
+pub(crate) struct Names {
+    table: IndexMap<String, Meaning>,
+}
+
+impl Model for Names {
+    ghost use Rattle.std.specs.Prelude.{List, ℕ};
+    ghost use Rattle.gvdl_check.specs.declared.names.Meaning.{Meaning};
+
+    ghost Value = { List (List ℕ × Meaning) };
+
+    ghost use Rattle.std.specs.Coded.{codes};
+    ghost use Rattle.edge_predicates.specs.contracts.pred.Pred as pred_contract;
+
+    ghost coded = { Prim.hlevel (codes, pred_contract.the_row.coded) };
+
+    ghost use Rattle.std.specs.Prelude.{map, string_bytes};
+
+    ghost view = { λ names. map (λ e. (string_bytes e.0, e.1)) names.table.entries };
+}
+
+impl Names {
+    /// No name is taken.
+    pub(crate) fn new(alloc: Global) -> Names
+        ensures { result ≡ [] }
+    {
+        Names {
+            table: IndexMap::new(alloc),
+        }
+    }
+
+    // What the name stands for, if it is taken.
+    fn meaning(&self, name: &str) -> Option<&Meaning>
+        ensures { option_copied result ≡ meaning_of self.now name.now }
+    {
+        self.table.get(name)
+    }
+
+    /// Refuses a name that is taken.
+    pub(crate) fn expect_new(&self, name: &str) -> Result<(), Stop>
+        ensures told { Tells (new_name self.now name.now) result }
+        ensures free { OnOk result (meaning_of self.now name.now ≡ None) }
+    {
+        match self.meaning(name) {
+            Some(_) => Err(Stop::Refused(Refusal::RepeatedName)),
+            None => Ok(()),
+        }
+    }
+
+    /// Adds a name that is not taken.
+    pub(crate) fn add(
+        &mut self,
+        alloc: Global,
+        name: &str,
+        meaning: Meaning,
+    ) -> Result<(), NoMemory>
+        requires { meaning_of self.old name.now ≡ None }
+        ensures { OnOk result (self.new ≡ self.old ++ (name.now, meaning) ∷ []) }
+    {
+        let name = String::from_str(alloc, name)?;
+        match self.table.insert(name, meaning) {
+            Ok(_) => Ok(()),
+            Err(_) => Err(NoMemory),
+        }
+    }
+
+    /// The predicates of the graph or the single view that has this name.
+    pub(crate) fn base(&self, alloc: Global, name: &str) -> Result<List<Pred>, Stop>
+        ensures { Tells (base_of self.now name.now) result }
+    {
+        match self.meaning(name) {
+            Some(Meaning::Base(rules)) => Ok(copied_preds(alloc, rules.as_slice())?),
+            _ => Err(Stop::Refused(Refusal::UnknownName)),
+        }
+    }
+
+    /// The place of the collection that has this name.
+    pub(crate) fn collection(&self, name: &str) -> Result<u32, Stop>
+        ensures { Tells (collection_of self.now name.now) result }
+    {
+        match self.meaning(name) {
+            Some(Meaning::Collection(place)) => Ok(*place),
+            _ => Err(Stop::Refused(Refusal::UnknownName)),
+        }
+    }
+
+    /// The program that has this name.
+    pub(crate) fn program(&self, name: &str) -> Result<BuiltIn, Stop>
+        ensures { Tells (program_of self.now name.now) result }
+    {
+        match self.meaning(name) {
+            Some(Meaning::Program(program)) => Ok(*program),
+            _ => Err(Stop::Refused(Refusal::UnknownName)),
+        }
+    }
+}

@@ -1,0 +1,6 @@
+//! Scripts against one small graph: their first faults and their plans, worked out by hand.
+
+mod faults;
+mod language;
+mod plans;
+mod told;
