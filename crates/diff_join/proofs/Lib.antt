@@ -1,6 +1,7 @@
 mod Walks
 mod Pushing
-mod Ranges
+mod Weights
+mod Waiting
 mod Keeping
 mod Settling
 mod Outcomes

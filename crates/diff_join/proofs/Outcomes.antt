@@ -17,11 +17,3 @@ module _ {X Y : Type 0} where
   pub OnOk-any : (r : Result X Y) (P : Type 0) → P → OnOk r P
   OnOk-any (Ok x) P p = p
   OnOk-any (Err e) P p = tt
-
-  pub OnOk-imply : (r : Result X Y) (P R : Type 0) → (P → R) → OnOk r P → OnOk r R
-  OnOk-imply (Ok x) P R f p = f p
-  OnOk-imply (Err e) P R f p = tt
-
-  pub OnOk-two : (r : Result X Y) (P Q R : Type 0) → (P → Q → R) → OnOk r P → OnOk r Q → OnOk r R
-  OnOk-two (Ok x) P Q R f p q = f p q
-  OnOk-two (Err e) P Q R f p q = tt

@@ -15,8 +15,5 @@ module _ {A B : Type 0} (f : List A → List B) (more : (xs ys : List A) → f (
   walk_step old new xs i e low is h made = made ∙ ap (λ v. v ++ f (e ∷ [])) h ∙ sym (walk_more xs i e low is)
 
 -- a walk that came to the end
-pub walked : {A B : Type 0} (f : List A → List B) (xs whole : List A) (i : ℕ) (old : List B) → old ≡ f (take i xs) → length xs ≤ i → xs ≡ whole → old ≡ f whole
-walked f xs whole i old h low is = h ∙ ap f (take_all i xs low ∙ is)
-
 pub walked_onto : {A B : Type 0} (f : List A → List B) (start old : List B) (xs whole : List A) (i : ℕ) → old ≡ start ++ f (take i xs) → length xs ≤ i → xs ≡ whole → old ≡ start ++ f whole
 walked_onto f start old xs whole i h low is = h ∙ ap (λ v. start ++ f v) (take_all i xs low ∙ is)

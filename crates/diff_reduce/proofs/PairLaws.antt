@@ -1,50 +1,17 @@
--- Pairs in order: one more, some less, those with a first part, and the first.
-use Rattle.std.proofs.Common.{◌≡◌, ◌∙◌, Bool, true, false, List, [], ◌∷◌, map, Ordering, refl, ap, sym, subst, inl, inr}
-use Rattle.std.specs.Prelude.{◌⊎◌, ◌&&◌, cond, not, filter, slice_get}
-use Rattle.std.specs.BTreeMap.{is_at}
-use Rattle.std.specs.BTreeMap.Range.{range_contains}
+-- Pairs in order: one more, and the first.
+use Rattle.std.proofs.Common.{◌≡◌, false, List, [], ◌∷◌, Ordering, refl, ap, sym, subst, inl, inr}
+use Rattle.std.specs.Prelude.{◌⊎◌, slice_get}
 use Rattle.std.specs.BTreeSet.{insert_key}
 use Rattle.std.specs.Cmp.{IsTotalOrder, tied_itself}
 use Rattle.std.specs.List.{AllByRecursion}
 use Rattle.std.specs.List.Sorted.{IsStrictlySortedBy}
-use Rattle.std.specs.Ordering.{is_eq, is_ne, is_le, is_lt, is_gt, match_ordering, ordering_then, ordering_reverse}
-use Rattle.std.specs.Set.{remove_key}
+use Rattle.std.specs.Ordering.{is_gt, match_ordering, ordering_then}
 use Rattle.std.specs.declared.cmp.Ordering.TheVariants.{Less, Equal, Greater}
-use Rattle.std.specs.declared.ops.Bound.TheVariants.{Included}
-use Rattle.std.specs.declared.option.Option.{Option}
-use Rattle.std.specs.declared.option.Option.TheVariants.{None, Some}
-use Rattle.std.proofs.lemmas.Cmp.{upto}
+use Rattle.std.specs.declared.option.Option.TheVariants.{Some}
 use Rattle.std.proofs.lemmas.Map.Keys.{sorted_head}
 use Rattle.trace_store.specs.Traces.{in_turn}
 use Rattle.flow_core.specs.Runs.{Every, Member}
-use Rattle.reduce_theory.specs.Members.{Member-unfiltered}
-use Rattle.diff_reduce.specs.Spans.{InSpan, IsSpanned}
 use Rattle.diff_reduce.specs.Stands.{due_times}
-
--- ---- spans
-
-not_less : (o : Ordering) → is_lt o ≡ false → is_gt (ordering_reverse o) ≡ false
-not_less Less h = absurd (cc)
-not_less Equal h = refl
-not_less Greater h = refl
-
-module _ {B : Type 0} (bcmp : B → B → Ordering) (order : IsTotalOrder bcmp) where
-  back : (x y : B) → is_lt (bcmp x y) ≡ false → is_gt (bcmp y x) ≡ false
-  back x y h = ap is_gt (order.antisymm y x) ∙ not_less (bcmp x y) h
-
-  span_forward : (ends : B × B) (b : B) → InSpan bcmp ends b → is_gt (bcmp ends.0 ends.1) ≡ false
-  span_forward ends b h = upto order ends.0 b ends.1 h.0 (back ends.1 b h.1)
-
-  -- a wider span, and one more pair
-  pub spanned_more : {A : Type 0} (span : Option (B × B)) (ends : B × B) (pairs new : List (A × B)) (pair : A × B) → IsSpanned bcmp span pairs → InSpan bcmp ends pair.1 → ((old : B × B) (b : B) → span ≡ Some old → InSpan bcmp old b → InSpan bcmp ends b) → ((p : A × B) → Member p new → Member p pairs ⊎ (pair ≡ p)) → IsSpanned bcmp (Some ends) new
-  spanned_more {A} span ends pairs new pair is more wider only = (span_forward ends pair.1 more, λ a b m. elim (only (a, b) m) [ inl o ↦ before span is wider a b o | inr e ↦ subst (λ v. InSpan bcmp ends v.1) e more ]) where
-    before : (span : Option (B × B)) → IsSpanned bcmp span pairs → ((old : B × B) (b : B) → span ≡ Some old → InSpan bcmp old b → InSpan bcmp ends b) → (a : A) (b : B) → Member (a, b) pairs → InSpan bcmp ends b
-    before None is wider a b m = absurd (subst (λ v. Member (a, b) v) is m)
-    before (Some old) is wider a b m = wider old b refl (is.1 a b m)
-
-pub spanned_filter : {A B : Type 0} (bcmp : B → B → Ordering) (keep : A × B → Bool) (span : Option (B × B)) (pairs : List (A × B)) → IsSpanned bcmp span pairs → IsSpanned bcmp span (filter keep pairs)
-spanned_filter bcmp keep None pairs is = ap (filter keep) is
-spanned_filter bcmp keep (Some ends) pairs is = (is.0, λ a b m. is.1 a b (Member-unfiltered keep pairs (a, b) m))
 
 -- ---- one key more
 
@@ -79,89 +46,6 @@ module _ {X : Type 0} (cmp : X → X → Ordering) (same : (x y : X) → cmp x y
   insert_only [] p (inl e) = inr (sym e)
   insert_only [] p (inr m) = absurd m
   insert_only (x ∷ xs) p m = only_by (cmp k x) x p xs (insert_key cmp xs k) m (insert_only xs p)
-
--- ---- the pairs with a first part
-
--- whether a pair has a first part
-abbrev pub has_first : {A B : Type 0} → (A → A → Ordering) → A → A × B → Bool
-has_first acmp a p = is_eq (acmp p.0 a)
-
--- whether it has another one
-abbrev pub differs : {A B : Type 0} → (A → A → Ordering) → A → A × B → Bool
-differs acmp a p = is_ne (acmp p.0 a)
-
-abbrev second : {A B : Type 0} → A × B → B
-second p = p.1
-
-filter_same : {X : Type 0} (f g : X → Bool) (xs : List X) → ((x : X) → Member x xs → f x ≡ g x) → filter f xs ≡ filter g xs
-filter_same f g [] h = refl
-filter_same f g (x ∷ xs) h = ap (λ b. cond b (x ∷ filter f xs) (filter f xs)) (h x (inl refl)) ∙ ap (λ v. cond (g x) (x ∷ v) v) (filter_same f g xs (λ y m. h y (inr m)))
-
-is_between : (r s u : Ordering) → is_gt s ≡ false → is_lt u ≡ false → is_le (ordering_then r s) && not (is_lt (ordering_then r u)) ≡ is_eq (ordering_reverse r)
-is_between Less s u h k = refl
-is_between Greater s u h k = refl
-is_between Equal Less Less h k = absurd (cc)
-is_between Equal Less Equal h k = refl
-is_between Equal Less Greater h k = refl
-is_between Equal Equal Less h k = absurd (cc)
-is_between Equal Equal Equal h k = refl
-is_between Equal Equal Greater h k = refl
-is_between Equal Greater u h k = absurd (cc)
-
-module _ {A B : Type 0} (acmp : A → A → Ordering) (bcmp : B → B → Ordering) (order : IsTotalOrder acmp) (a : A) where
-  -- they are a range
-  pub range_is : (ends : B × B) (pairs : List (A × B)) → ((x : A) (b : B) → Member (x, b) pairs → InSpan bcmp ends b) → filter (range_contains (in_turn acmp bcmp) (Included (a, ends.0)) (Included (a, ends.1))) pairs ≡ filter (has_first acmp a) pairs
-  range_is ends pairs spanned = filter_same (range_contains (in_turn acmp bcmp) (Included (a, ends.0)) (Included (a, ends.1))) (has_first acmp a) pairs (λ p m.
-      let h = spanned p.0 p.1 m in
-      is_between (acmp a p.0) (bcmp ends.0 p.1) (bcmp ends.1 p.1) h.0 h.1 ∙ ap is_eq (sym (order.antisymm p.0 a)))
-
-  -- without any of them the others are all
-  none_by : (p : A × B) (ps : List (A × B)) (o : Ordering) → map second (cond (is_eq o) (p ∷ filter (has_first acmp a) ps) (filter (has_first acmp a) ps)) ≡ [] → (map second (filter (has_first acmp a) ps) ≡ [] → filter (differs acmp a) ps ≡ ps) → cond (is_ne o) (p ∷ filter (differs acmp a) ps) (filter (differs acmp a) ps) ≡ p ∷ ps
-  none_by p ps Less h go = ap (λ v. p ∷ v) (go h)
-  none_by p ps Equal h go = absurd (cc)
-  none_by p ps Greater h go = ap (λ v. p ∷ v) (go h)
-
-  pub none_left : (ps : List (A × B)) → map second (filter (has_first acmp a) ps) ≡ [] → filter (differs acmp a) ps ≡ ps
-  none_left [] h = refl
-  none_left (p ∷ ps) h = none_by p ps (acmp p.0 a) h (none_left ps)
-
-  module _ (asame : (x y : A) → acmp x y ≡ Equal → x ≡ y) (bitself : (x : B) → bcmp x x ≡ Equal) (s : B) (ss : List B) where
-    abbrev at : A × B → Bool
-    at = is_at (in_turn acmp bcmp (a, s))
-
-    -- one of them less
-    abbrev Less_one : List (A × B) → List (A × B) → Type 0
-    Less_one rest ps = (map second (filter (has_first acmp a) rest) ≡ ss) × (filter (differs acmp a) rest ≡ filter (differs acmp a) ps)
-
-    found : (p : A × B) → acmp p.0 a ≡ Equal → p.1 ≡ s → is_eq (ordering_then (acmp a p.0) (bcmp s p.1)) ≡ true
-    found p e q = ap (λ r. is_eq (ordering_then r (bcmp s p.1))) (order.antisymm a p.0 ∙ ap ordering_reverse e) ∙ ap is_eq (subst (λ v. bcmp s v ≡ Equal) (sym q) (bitself s))
-
-    passed : (p : A × B) (o : Ordering) → acmp p.0 a ≡ o → is_eq o ≡ false → is_eq (ordering_then (acmp a p.0) (bcmp s p.1)) ≡ false
-    passed p Less e n = ap (λ r. is_eq (ordering_then r (bcmp s p.1))) (order.antisymm a p.0 ∙ ap ordering_reverse e)
-    passed p Equal e n = absurd (cc)
-    passed p Greater e n = ap (λ r. is_eq (ordering_then r (bcmp s p.1))) (order.antisymm a p.0 ∙ ap ordering_reverse e)
-
-    here : (p : A × B) (ps rest : List (A × B)) (b : Bool) → b ≡ true → acmp p.0 a ≡ Equal → map second (filter (has_first acmp a) ps) ≡ ss → Less_one (cond b ps (p ∷ rest)) (p ∷ ps)
-    here p ps rest true t e q = (q, sym (ap (λ o. cond (is_ne o) (p ∷ filter (differs acmp a) ps) (filter (differs acmp a) ps)) e))
-    here p ps rest false t e q = absurd (cc)
-
-    later : (p : A × B) (ps rest : List (A × B)) (b : Bool) → b ≡ false → is_eq (acmp p.0 a) ≡ false → Less_one rest ps → Less_one (cond b ps (p ∷ rest)) (p ∷ ps)
-    later p ps rest true t n q = absurd (cc)
-    later p ps rest false t n q = (ap (λ c. map second (cond c (p ∷ filter (has_first acmp a) rest) (filter (has_first acmp a) rest))) n ∙ q.0, ap (λ v. cond (differs acmp a p) (p ∷ v) v) q.1)
-
-    less_by : (p : A × B) (ps rest : List (A × B)) (o : Ordering) → acmp p.0 a ≡ o → map second (cond (is_eq o) (p ∷ filter (has_first acmp a) ps) (filter (has_first acmp a) ps)) ≡ s ∷ ss → (map second (filter (has_first acmp a) ps) ≡ s ∷ ss → Less_one rest ps) → Less_one (cond (at p) ps (p ∷ rest)) (p ∷ ps)
-    less_by p ps rest Less e h go = later p ps rest (at p) (passed p Less e refl) (ap is_eq e) (go h)
-    less_by p ps rest Equal e h go = here p ps rest (at p) (found p e (first_of p.1 (map second (filter (has_first acmp a) ps)) h)) e (rest_of p.1 (map second (filter (has_first acmp a) ps)) h) where
-      first_of : (x : B) (xs : List B) → x ∷ xs ≡ s ∷ ss → x ≡ s
-      first_of x xs h = cc
-
-      rest_of : (x : B) (xs : List B) → x ∷ xs ≡ s ∷ ss → xs ≡ ss
-      rest_of x xs h = cc
-    less_by p ps rest Greater e h go = later p ps rest (at p) (passed p Greater e refl) (ap is_eq e) (go h)
-
-    pub one_less : (ps : List (A × B)) → map (λ (p : A × B). p.1) (filter (has_first acmp a) ps) ≡ s ∷ ss → (map (λ (p : A × B). p.1) (filter (has_first acmp a) (remove_key (is_at (in_turn acmp bcmp (a, s))) ps)) ≡ ss) × (filter (differs acmp a) (remove_key (is_at (in_turn acmp bcmp (a, s))) ps) ≡ filter (differs acmp a) ps)
-    one_less [] h = absurd (cc)
-    one_less (p ∷ ps) h = less_by p ps (remove_key (is_at (in_turn acmp bcmp (a, s))) ps) (acmp p.0 a) refl h (one_less ps)
 
 -- ---- the first pair
 

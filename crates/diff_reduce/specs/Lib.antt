@@ -1,4 +1,3 @@
-pub mod Spans
 pub mod Stands
 pub mod Changes
 pub mod Later

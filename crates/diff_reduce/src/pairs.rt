@@ -1,12 +1,12 @@
 //! Pairs that are found by their first part.
 
-ghost use Rattle.std.specs.Prelude.{◌≡◌, ◌⊎◌, ◌++◌, [], filter, map, OnOk, OnErr, Some};
+ghost use Rattle.std.specs.Prelude.{◌≡◌, ◌⊎◌, ◌++◌, [], filter, map, OnOk, OnErr};
 ghost use Rattle.std.specs.List.{Contains};
 ghost use Rattle.std.specs.Ordering.{is_eq, is_ne};
 ghost use Rattle.flow_core.specs.Runs.{IsNextDue};
 ghost use Rattle.diff_reduce.specs.Stands.{due_times};
-ghost use Rattle.diff_reduce.specs.Spans.{InSpan};
 
+use ordered_pairs::widened;
 use std::alloc::Global;
 use std::collections::{BTreeSet, btree_set};
 use std::marker::Model;
@@ -25,24 +25,13 @@ impl<A: Record, B: Record> Model for Pairs<A, B> {
     ghost use Rattle.std.specs.Prelude.{List};
     ghost use Rattle.std.specs.List.Sorted.{IsStrictlySortedBy};
     ghost use Rattle.trace_store.specs.Traces.{in_turn};
-    ghost use Rattle.diff_reduce.specs.Spans.{IsSpanned};
+    ghost use Rattle.ordered_pairs.specs.Spans.{IsSpanned};
 
     ghost Value = { List (A × B) };
 
     ghost view = { λ p. p.pairs.keys };
 
     ghost invariant = { λ p. IsStrictlySortedBy (in_turn A.cmp B.cmp) p.pairs.keys × IsSpanned B.cmp p.span p.pairs.keys };
-}
-
-/// The least and the greatest of some second parts and of one more.
-fn widened<B: Record>(span: Option<(B, B)>, more: B) -> (B, B)
-    ensures more { InSpan B.cmp result more }
-    ensures old { (ends : B × B) (b : B) → span ≡ Some ends → InSpan B.cmp ends b → InSpan B.cmp result b }
-{
-    match span {
-        None => (more, more),
-        Some((low, high)) => (low.min(more), high.max(more)),
-    }
 }
 
 /// Adds the second parts of pairs.

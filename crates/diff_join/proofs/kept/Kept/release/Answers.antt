@@ -1,45 +1,48 @@
--- What is taken out at a time, and what is left.
-use Rattle.std.proofs.Common.{◌≡◌, ◌∙◌, ap, sym}
-use Rattle.weighted.specs.Alike.{Alike-is, Alike-trans}
-use Rattle.weighted.specs.Normal.{normal}
+-- The products of one time are a range; without them the others stay.
+use Rattle.std.proofs.Common.{◌≡◌, ◌∙◌, ◌++◌, [], ap, sym, subst}
+use Rattle.std.specs.Map.{keys_of}
+use Rattle.std.specs.Ordering.{is_ne}
+use Rattle.weighted.specs.Batches.{IsBatch}
 use Rattle.weighted.specs.WordLaws.{mapped}
 use Rattle.trace_store.specs.Traces.{in_turn}
-use Rattle.diff_join.proofs.Keeping.{all_around, all_others, here_is, nothing_between, released_times, rest_is}
-use Rattle.diff_join.proofs.Outcomes.{IfOk-imply, OnOk-imply}
+use Rattle.ordered_pairs.specs.Spans.{IsSpanned}
+use Rattle.ordered_pairs.specs.SpanLaws.{spanned_less}
+use Rattle.diff_join.specs.Joins.{products_after, products_at}
+use Rattle.diff_join.proofs.Waiting.{batch_part, keys_part, no_entry, range_at}
 use Rattle.diff_join.proofs.kept.Kept.release.Goals as goal
 
-pub returns-then-start-end-clause-made : goal.returns-then-start-end-clause-made
-returns-then-start-end-clause-made g c =
-    let ends = c.range_at-start.result in
-    let is : c.as_slice.result.now ≡ c.args.self.now = c.as_slice.ensures.value ∙ c.self.view_is in
-    Alike-is (c.empty.ensures ∙ sym (here_is g.T.Ord.cmp g.met.T.Ord.total c.args.t c.as_slice.result.now c.args.self.now ends.0 ends.1 is c.range_at-start.ensures.at ∙ ap (mapped (λ r. r.1)) (nothing_between c.args.self.now ends.0 ends.1 c.if-start-end.true)))
+pub take_out-requires : goal.take_out-requires
+take_out-requires g c =
+    let spanned = subst (λ s. IsSpanned g.O.Ord.cmp s (keys_of c.self.inside.products.entries)) c.in-Some.is c.self.invariant.1 in
+    let found = ap (mapped (λ r. r.1)) (c.range.ensures.between tt) ∙ range_at g.T.Ord.cmp g.O.Ord.cmp g.met.T.Ord.total c.args.t.now (c.in-Some.low, c.in-Some.high) c.self.inside.products.entries spanned.1 in
+    sym (c.as_slice.ensures.value ∙ c.in_ok-push_outputs.ensures ∙ ap (λ v. v ++ mapped (λ r. r.1) c.range.result) c.new-outputs.ensures.items ∙ found)
 
-pub returns-then-start-end-clause-rest : goal.returns-then-start-end-clause-rest
-returns-then-start-end-clause-rest g c =
-    let ends = c.range_at-start.result in
-    let is : c.as_slice.result.now ≡ c.args.self.now = c.as_slice.ensures.value ∙ c.self.view_is in
-    Alike-is (sym (rest_is g.T.Ord.cmp g.met.T.Ord.total c.args.t c.as_slice.result.now c.args.self.now ends.0 ends.1 is c.range_at-start.ensures.after ∙ all_around c.args.self.now ends.0 ends.1 c.if-start-end.true))
+pub invariant_of-self : goal.invariant_of-self
+invariant_of-self g c =
+    let old = c.self.inside.products.entries in
+    subst (λ es. IsBatch (in_turn g.T.Ord.cmp g.O.Ord.cmp) es × IsSpanned g.O.Ord.cmp c.self.inside.span (keys_of es)) (sym c.take_out.ensures) (
+      batch_part (in_turn g.T.Ord.cmp g.O.Ord.cmp) (λ r. is_ne (g.T.Ord.cmp r.0 c.args.t.now)) old c.self.invariant.0,
+      spanned_less g.O.Ord.cmp c.self.inside.span (keys_of old) (keys_of (products_after g.T.Ord.cmp c.args.t.now old)) (λ P h. keys_part (λ r. is_ne (g.T.Ord.cmp r.0 c.args.t.now)) P old h) c.self.invariant.1,
+    )
 
-pub returns-then-start-end-clause-times : goal.returns-then-start-end-clause-times
-returns-then-start-end-clause-times g c =
-    let ends = c.range_at-start.result in
-    let is : c.as_slice.result.now ≡ c.args.self.now = c.as_slice.ensures.value ∙ c.self.view_is in
-    all_others g.T.Ord.cmp g.met.T.Ord.total c.args.t c.args.self.now (rest_is g.T.Ord.cmp g.met.T.Ord.total c.args.t c.as_slice.result.now c.args.self.now ends.0 ends.1 is c.range_at-start.ensures.after ∙ all_around c.args.self.now ends.0 ends.1 c.if-start-end.true)
+pub returns-in_default-clause-made : goal.returns-in_default-clause-made
+returns-in_default-clause-made g c =
+    let none : c.args.self.now ≡ [] = sym c.self.view_is ∙ no_entry c.self.inside.products.entries (subst (λ s. IsSpanned g.O.Ord.cmp s (keys_of c.self.inside.products.entries)) c.in_default.is c.self.invariant.1) in
+    c.new-outputs.ensures.items ∙ ap (products_at g.T.Ord.cmp c.args.t.now) (sym none)
+
+pub returns-in_default-clause-rest : goal.returns-in_default-clause-rest
+returns-in_default-clause-rest g c =
+    let none : c.args.self.now ≡ [] = sym c.self.view_is ∙ no_entry c.self.inside.products.entries (subst (λ s. IsSpanned g.O.Ord.cmp s (keys_of c.self.inside.products.entries)) c.in_default.is c.self.invariant.1) in
+    none ∙ ap (products_after g.T.Ord.cmp c.args.t.now) (sym none)
+
+pub returns-in_default-clause-batch : goal.returns-in_default-clause-batch
+returns-in_default-clause-batch g c = subst (λ es. IsBatch (in_turn g.T.Ord.cmp g.O.Ord.cmp) es) c.self.view_is c.self.invariant.0
 
 pub returns-clause-made : goal.returns-clause-made
 returns-clause-made g c =
-    let ends = c.range_at-start.result in
-    let is : c.as_slice.result.now ≡ c.args.self.now = c.as_slice.ensures.value ∙ c.self.view_is in
-    IfOk-imply c.cut.result _ _ (λ made a. Alike-trans a (Alike-is (sym (here_is g.T.Ord.cmp g.met.T.Ord.total c.args.t c.as_slice.result.now c.args.self.now ends.0 ends.1 is c.range_at-start.ensures.at)))) c.cut.ensures.made
+    let spanned = subst (λ s. IsSpanned g.O.Ord.cmp s (keys_of c.self.inside.products.entries)) c.in-Some.is c.self.invariant.1 in
+    let found = ap (mapped (λ r. r.1)) (c.range.ensures.between tt) ∙ range_at g.T.Ord.cmp g.O.Ord.cmp g.met.T.Ord.total c.args.t.now (c.in-Some.low, c.in-Some.high) c.self.inside.products.entries spanned.1 in
+    c.in_ok-push_outputs.ensures ∙ ap (λ v. v ++ mapped (λ r. r.1) c.range.result) c.new-outputs.ensures.items ∙ found ∙ ap (products_at g.T.Ord.cmp c.args.t.now) c.self.view_is
 
-pub returns-clause-rest : goal.returns-clause-rest
-returns-clause-rest g c =
-    let ends = c.range_at-start.result in
-    let is : c.as_slice.result.now ≡ c.args.self.now = c.as_slice.ensures.value ∙ c.self.view_is in
-    OnOk-imply c.cut.result _ _ (λ a. Alike-trans a (Alike-is (sym (rest_is g.T.Ord.cmp g.met.T.Ord.total c.args.t c.as_slice.result.now c.args.self.now ends.0 ends.1 is c.range_at-start.ensures.after)))) c.cut.ensures.alike
-
-pub returns-clause-times : goal.returns-clause-times
-returns-clause-times g c =
-    let ends = c.range_at-start.result in
-    let is : c.as_slice.result.now ≡ c.args.self.now = c.as_slice.ensures.value ∙ c.self.view_is in
-    OnOk-imply c.cut.result _ _ (λ e. released_times g.T.Ord.cmp g.met.T.Ord.total c.args.t (in_turn g.T.Ord.cmp g.O.Ord.cmp) c.args.self.now c.cut.new.self (e ∙ ap (normal (in_turn g.T.Ord.cmp g.O.Ord.cmp)) (sym (rest_is g.T.Ord.cmp g.met.T.Ord.total c.args.t c.as_slice.result.now c.args.self.now ends.0 ends.1 is c.range_at-start.ensures.after)))) c.cut.ensures.rest
+pub returns-clause-batch : goal.returns-clause-batch
+returns-clause-batch g c = subst (λ es. IsBatch (in_turn g.T.Ord.cmp g.O.Ord.cmp) es) (sym c.take_out.ensures) (batch_part (in_turn g.T.Ord.cmp g.O.Ord.cmp) (λ r. is_ne (g.T.Ord.cmp r.0 c.args.t.now)) c.self.inside.products.entries c.self.invariant.0)
