@@ -1,6 +1,6 @@
 #!/bin/sh
 # Builds a bench's program beside copies of the crates that it stands on, and prints where the program is. A file
-# FUNCTION.antt.txt has what holds in that function's loops.
+# FUNCTION.antt.txt has what holds in that function's loops, and FUNCTION.answers.antt.txt the rest of its proof.
 # Called as: build.sh NAME 'CRATES THAT IT STANDS ON, LOWEST FIRST' 'PORTED CRATES'
 set -eu
 name=$1
@@ -26,8 +26,13 @@ cp "$top/bench/$name/main.rt.txt" "$work/crates/bench_$name/src/main.rt"
 for loops in "$top/bench/$name"/*.antt.txt; do
     if [ -f "$loops" ]; then
         function=$(basename "$loops" .antt.txt)
+        proof=Invariants
+        if [ "${function%.answers}" != "$function" ]; then
+            function=${function%.answers}
+            proof=Answers
+        fi
         mkdir -p "$work/crates/bench_$name/proofs/$function"
-        cp "$loops" "$work/crates/bench_$name/proofs/$function/Invariants.antt"
+        cp "$loops" "$work/crates/bench_$name/proofs/$function/$proof.antt"
     fi
 done
 cd "$work/crates/bench_$name"

@@ -1,2 +1,9 @@
+pub mod Shared
 pub mod Hops
 pub mod HopsLaws
+pub mod Dist
+pub mod DistLaws
+pub mod Wcc
+pub mod WccLaws
+pub mod PageRank
+pub mod PageRankLaws

@@ -1,8 +1,5 @@
-pub mod Judged
-pub mod Turns
 pub mod NameFacts
 pub mod PredicateCases
-pub mod Through
 pub mod RuleFacts
 pub mod ViewFacts
 pub mod PlanFacts

@@ -5,9 +5,9 @@ use Rattle.gvdl_tree.specs.declared.script.Script.{Script}
 use Rattle.gvdl_check.specs.declared.plan.Plan.{Plan}
 use Rattle.gvdl_check.specs.declared.fault.CheckFault.{CheckFault}
 use Rattle.gvdl_check.specs.declared.fault.CheckFault.TheVariants as fault
-use Rattle.gvdl_check.specs.declared.refusal.Stop.{Stop}
-use Rattle.gvdl_check.specs.declared.refusal.Stop.TheVariants as stop
-use Rattle.gvdl_check.specs.Judging.{Judged, ◌>>=◌, IfRefused}
+use Rattle.gvdl_programs.specs.declared.refusal.Stop.{Stop}
+use Rattle.gvdl_programs.specs.declared.refusal.Stop.TheVariants as stop
+use Rattle.gvdl_programs.specs.Judging.{Judged, ◌>>=◌, IfRefused}
 use Rattle.gvdl_check.specs.Faults.{at, stop_at, Agrees}
 use Rattle.gvdl_check.specs.Plans.{plan}
 use Rattle.gvdl_check.specs.Fits.{PlanFits}

@@ -3,13 +3,13 @@ use Rattle.std.proofs.Common.{◌≡◌, ◌∙◌, ℕ, ◌+◌, ◌<◌, ◌�
 use Rattle.std.proofs.lemmas.List.{drop_all}
 use Rattle.graph_model.specs.GraphData.{GraphData}
 use Rattle.gvdl_tree.specs.declared.script.Statement.{Statement}
-use Rattle.gvdl_check.specs.declared.refusal.Stop.{Stop}
-use Rattle.gvdl_check.specs.declared.refusal.Stop.TheVariants as stop
+use Rattle.gvdl_programs.specs.declared.refusal.Stop.{Stop}
+use Rattle.gvdl_programs.specs.declared.refusal.Stop.TheVariants as stop
 use Rattle.gvdl_check.specs.declared.known.Known.{Known}
-use Rattle.gvdl_check.specs.Judging.{Judged, ◌>>=◌, IfRefused}
+use Rattle.gvdl_programs.specs.Judging.{Judged, ◌>>=◌, IfRefused}
 use Rattle.gvdl_check.specs.Faults.{at, stop_at, Agrees}
 use Rattle.gvdl_check.specs.Plans.{statement_judged, plan_of, plan_from}
-use Rattle.gvdl_check.proofs.Turns.{left_at}
+use Rattle.gvdl_programs.specs.Turns.{left_at}
 
 module _ (g : GraphData) (n : ℕ) (k : Known) (ss : List Statement) (i : ℕ) where
   -- the rest of the plan, behind what is judged of the statement here

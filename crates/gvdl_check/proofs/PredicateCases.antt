@@ -10,7 +10,7 @@ use Rattle.gvdl_tree.specs.declared.predicate.PredTree.TheOpen.{PredTree-F}
 use Rattle.gvdl_tree.specs.declared.predicate.PredTree.TheFolds.{fold-roll-PredTree}
 use Rattle.edge_predicates.specs.declared.pred.Pred.{Pred}
 use Rattle.edge_predicates.specs.declared.pred.Pred.TheVariants as pred
-use Rattle.gvdl_check.specs.Judging.{Judged, ◌>>=◌, each}
+use Rattle.gvdl_programs.specs.Judging.{Judged, ◌>>=◌, each}
 use Rattle.gvdl_check.specs.Predicates.{predicate, predicate_of, placed, comparison}
 
 pub predicate-or : (g : GraphData) (ts : List PredTree) → predicate g (tree.Or ts) ≡ (each (map (predicate g) ts) >>= λ ps. Ok (pred.Or ps))

@@ -24,11 +24,12 @@ use Rattle.edge_predicates.specs.declared.pred.Pred.TheVariants as pred
 use Rattle.edge_predicates.specs.declared.pred.Pred.TheVariants.{rolls-Or, rolls-And, rolls-Not, rolls-Constant, rolls-Compare, rolls-Missing}
 use Rattle.edge_predicates.specs.declared.pred.Pred.TheOpen.{Pred-F}
 use Rattle.edge_predicates.specs.declared.pred.Pred.TheFolds.{fold-roll-Pred}
-use Rattle.gvdl_check.specs.declared.refusal.Refusal.TheVariants as refusal
-use Rattle.gvdl_check.specs.Judging.{Judged, ◌>>=◌, ◌>>◌, expect, each}
-use Rattle.gvdl_check.specs.Predicates.{column_from, column_of, source_placed, target_placed, placed, compares, sign_of, comparison, predicate, predicate_of}
+use Rattle.gvdl_programs.specs.declared.refusal.Refusal.TheVariants as refusal
+use Rattle.gvdl_programs.specs.Judging.{Judged, ◌>>=◌, ◌>>◌, expect, each}
+use Rattle.gvdl_programs.specs.Columns.{column_from, column_of}
+use Rattle.gvdl_check.specs.Predicates.{source_placed, target_placed, placed, compares, sign_of, comparison, predicate, predicate_of}
 use Rattle.gvdl_check.specs.Fits.{place_fits, fits, fits_of}
-use Rattle.gvdl_check.proofs.Through.{through, same_value}
+use Rattle.gvdl_programs.specs.JudgingLaws.{through, same_value}
 
 -- ---- columns
 

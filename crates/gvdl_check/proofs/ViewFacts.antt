@@ -14,13 +14,15 @@ use Rattle.edge_predicates.specs.declared.pred.Cmp.TheVariants as checked
 use Rattle.edge_predicates.specs.declared.pred.Place.TheVariants as place
 use Rattle.edge_predicates.specs.declared.pred.Pred.{Pred}
 use Rattle.edge_predicates.specs.declared.pred.Pred.TheVariants as pred
+use Rattle.vertex_lang.specs.Leaves.{is_int}
 use Rattle.gvdl_check.specs.declared.plan.ViewPlan.{ViewPlan}
-use Rattle.gvdl_check.specs.declared.refusal.Refusal.TheVariants as refusal
-use Rattle.gvdl_check.specs.Judging.{Judged, ◌>>=◌, expect, in_turn}
-use Rattle.gvdl_check.specs.Predicates.{column_of, predicate}
-use Rattle.gvdl_check.specs.Views.{view_on, new_view, room, rule_added, is_int, is_window, window_count, window_name, window_rule, window_added, windows_added, body_added, item_added, views_of}
+use Rattle.gvdl_programs.specs.declared.refusal.Refusal.TheVariants as refusal
+use Rattle.gvdl_programs.specs.Judging.{Judged, ◌>>=◌, expect, in_turn}
+use Rattle.gvdl_programs.specs.Columns.{column_of}
+use Rattle.gvdl_check.specs.Predicates.{predicate}
+use Rattle.gvdl_check.specs.Views.{view_on, new_view, room, rule_added, is_window, window_count, window_name, window_rule, window_added, windows_added, body_added, item_added, views_of}
 use Rattle.gvdl_check.specs.Fits.{place_fits, fits, RuleFits, ViewsFit}
-use Rattle.gvdl_check.proofs.Through.{through, same_value, expected}
+use Rattle.gvdl_programs.specs.JudgingLaws.{through, same_value, expected}
 use Rattle.gvdl_check.proofs.RuleFacts.{column_found, fits-and, fits-compare, two_fit, predicate_fits}
 
 -- what each step keeps, all steps keep

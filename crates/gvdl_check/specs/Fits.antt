@@ -1,5 +1,5 @@
 -- What holds of every plan that is made for a graph.
-use Rattle.std.specs.Prelude.{◌≡◌, ℕ, ℤ, ◌<◌, ◌≤◌, Bool, true, nat_lt, IsTrue, All, List, [], ◌∷◌, length}
+use Rattle.std.specs.Prelude.{◌≡◌, ℕ, ◌<◌, ◌≤◌, Bool, true, nat_lt, IsTrue, All, List, [], ◌∷◌, length}
 use Rattle.std.specs.List.{list_all}
 use Rattle.graph_model.specs.GraphData.{GraphData}
 use Rattle.edge_predicates.specs.declared.pred.Place.{Place}
@@ -9,10 +9,13 @@ use Rattle.edge_predicates.specs.declared.pred.Pred.TheOpen.{Pred-F}
 use Rattle.edge_predicates.specs.declared.pred.Pred.TheFolds.{fold-Pred}
 use Rattle.vertex_lang.specs.Leaves.{IsChecked}
 use Rattle.vertex_lang.specs.Lone.{number_of}
-use Rattle.graph_algos.specs.Hops.{hops}
+use Rattle.gvdl_programs.specs.Fits.{ProgramFits}
+use Rattle.gvdl_check.specs.declared.names.Meaning.{Meaning}
+use Rattle.gvdl_check.specs.declared.names.Meaning.TheVariants as meaning
 use Rattle.gvdl_check.specs.declared.plan.ViewPlan.{ViewPlan}
 use Rattle.gvdl_check.specs.declared.plan.RunPlan.{RunPlan}
 use Rattle.gvdl_check.specs.declared.plan.Plan.{Plan}
+use Rattle.gvdl_check.specs.Names.{NameList}
 
 -- the column that a place names is one of the graph
 abbrev pub place_fits : GraphData → Place → Bool
@@ -43,11 +46,19 @@ RuleFits g rules = All (λ p. IsTrue (fits g p)) rules
 abbrev pub ViewsFit : GraphData → List ViewPlan → Type 0
 ViewsFit g views = (length views ≤ 64) × All (λ view. RuleFits g view.rule.rules) views
 
--- a run of `hops` on one of so many collections, for a number of rounds that is allowed
+-- a program that a name stands for fits the graph
+abbrev pub ProgramMeantFits : GraphData → Meaning → Type 0
+ProgramMeantFits g (meaning.Program program) = ProgramFits g program
+ProgramMeantFits g (meaning.Base rules) = Unit {0}
+ProgramMeantFits g (meaning.Collection place) = Unit {0}
+
+-- all programs that have names fit the graph
+abbrev pub ProgramsFit : GraphData → NameList → Type 0
+ProgramsFit g names = All (λ taken. ProgramMeantFits g taken.1) names
+
+-- a run on one of so many collections, of a program that fits the graph, for a number of rounds that is allowed
 pub record RunFits (g : GraphData) (collections : ℕ) (run : RunPlan) : Type 0 where
   pub collection : run.collection < collections
-  pub source : ℤ
-  pub program : run.program ≡ hops source
   pub checked : IsChecked run.program g
   pub some : 1 ≤ number_of run.rounds
   pub limit : number_of run.rounds ≤ 1_000_000

@@ -1,4 +1,3 @@
-pub mod Judging
 pub mod Faults
 pub mod Names
 pub mod Predicates

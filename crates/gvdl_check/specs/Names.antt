@@ -1,11 +1,11 @@
 -- The names of a script and what they mean.
 use Rattle.std.specs.Prelude.{ℕ, List, [], ◌∷◌, Option, None, Some, Ok, Err, if◌then◌else◌, bytes_eq}
 use Rattle.edge_predicates.specs.declared.pred.Pred.{Pred}
-use Rattle.gvdl_check.specs.declared.refusal.Refusal.TheVariants as refusal
-use Rattle.gvdl_check.specs.declared.names.BuiltIn.{BuiltIn}
+use Rattle.gvdl_programs.specs.declared.refusal.Refusal.TheVariants as refusal
+use Rattle.gvdl_programs.specs.declared.template.Callable.{Callable}
 use Rattle.gvdl_check.specs.declared.names.Meaning.{Meaning}
 use Rattle.gvdl_check.specs.declared.names.Meaning.TheVariants as meaning
-use Rattle.gvdl_check.specs.Judging.{Judged}
+use Rattle.gvdl_programs.specs.Judging.{Judged}
 
 -- names, each with its meaning
 abbrev pub NameList : Type 0
@@ -40,9 +40,17 @@ as_collection _ = Err refusal.UnknownName
 abbrev pub collection_of : NameList → List ℕ → Judged ℕ
 collection_of names name = as_collection (meaning_of names name)
 
-abbrev pub as_program : Option Meaning → Judged BuiltIn
-as_program (Some (meaning.Program program)) = Ok program
-as_program _ = Err refusal.UnknownName
+-- the program with this name
+abbrev pub as_program : Option Meaning → Option Callable
+as_program (Some (meaning.Program program)) = Some program
+as_program _ = None
 
-abbrev pub program_of : NameList → List ℕ → Judged BuiltIn
-program_of names name = as_program (meaning_of names name)
+abbrev pub program_named : NameList → List ℕ → Option Callable
+program_named names name = as_program (meaning_of names name)
+
+abbrev pub known_program : Option Callable → Judged Callable
+known_program None = Err refusal.UnknownName
+known_program (Some program) = Ok program
+
+abbrev pub program_of : NameList → List ℕ → Judged Callable
+program_of names name = known_program (program_named names name)

@@ -1,10 +1,11 @@
 -- The plan of a script against a graph, or its first refusal.
-use Rattle.std.specs.Prelude.{ℕ, ℤ, ◌+◌, Bool, true, false, ◌&&◌, nat_le, List, [], ◌∷◌, ◌++◌, length, Option, None, is_none, Result, Ok, Err, codes}
+use Rattle.std.specs.Prelude.{ℕ, ◌+◌, Bool, true, false, ◌&&◌, nat_le, List, [], ◌∷◌, ◌++◌, length, Option, None, is_none, Result, Ok, Err, codes}
 use Rattle.graph_model.specs.GraphData.{GraphData}
 use Rattle.gvdl_tree.specs.declared.predicate.PredTree.{PredTree}
-use Rattle.gvdl_tree.specs.declared.script.Arg.{Arg}
-use Rattle.gvdl_tree.specs.declared.script.Arg.TheVariants as arg
+use Rattle.gvdl_tree.specs.declared.expression.ExprTree.{ExprTree}
+use Rattle.gvdl_tree.specs.declared.script.Along.{Along}
 use Rattle.gvdl_tree.specs.declared.script.Call.{Call}
+use Rattle.gvdl_tree.specs.declared.script.Gather.{Gather}
 use Rattle.gvdl_tree.specs.declared.script.Item.{Item}
 use Rattle.gvdl_tree.specs.declared.script.OrderWord.{OrderWord}
 use Rattle.gvdl_tree.specs.declared.script.SplitWord.{SplitWord}
@@ -12,14 +13,14 @@ use Rattle.gvdl_tree.specs.declared.script.Statement.{Statement}
 use Rattle.gvdl_tree.specs.declared.script.Statement.TheVariants as statement
 use Rattle.gvdl_tree.specs.declared.script.Script.{Script}
 use Rattle.edge_predicates.specs.declared.pred.Pred.{Pred}
+use Rattle.vertex_lang.specs.declared.program.Program.{Program}
 use Rattle.vertex_lang.specs.declared.lone.Rounds.{Rounds}
 use Rattle.vertex_lang.specs.declared.lone.Rounds.TheVariants as rounds
-use Rattle.graph_algos.specs.Hops.{hops}
 use Rattle.segment_split.specs.declared.SplitRule.TheVariants as split
 use Rattle.gvdl_check.specs.declared.fault.CheckFault.{CheckFault}
-use Rattle.gvdl_check.specs.declared.refusal.Refusal.TheVariants as refusal
-use Rattle.gvdl_check.specs.declared.names.BuiltIn.{BuiltIn}
-use Rattle.gvdl_check.specs.declared.names.BuiltIn.TheVariants as built_in
+use Rattle.gvdl_programs.specs.declared.refusal.Refusal.TheVariants as refusal
+use Rattle.gvdl_programs.specs.declared.template.ProgramTemplate.{ProgramTemplate}
+use Rattle.gvdl_programs.specs.declared.template.Callable.TheVariants as callable
 use Rattle.gvdl_check.specs.declared.names.Meaning.TheVariants as meaning
 use Rattle.gvdl_check.specs.declared.plan.ViewPlan.{ViewPlan}
 use Rattle.gvdl_check.specs.declared.plan.CollectionPlan.{CollectionPlan}
@@ -29,7 +30,9 @@ use Rattle.gvdl_check.specs.declared.plan.Step.{Step}
 use Rattle.gvdl_check.specs.declared.plan.Step.TheVariants as step
 use Rattle.gvdl_check.specs.declared.plan.Plan.{Plan}
 use Rattle.gvdl_check.specs.declared.known.Known.{Known}
-use Rattle.gvdl_check.specs.Judging.{Judged, ◌>>=◌, ◌>>◌, expect}
+use Rattle.gvdl_programs.specs.Judging.{Judged, ◌>>=◌, ◌>>◌, expect}
+use Rattle.gvdl_programs.specs.Programs.{declared}
+use Rattle.gvdl_programs.specs.Calls.{called}
 use Rattle.gvdl_check.specs.Faults.{at}
 use Rattle.gvdl_check.specs.Names.{NameList, new_name, base_of, collection_of, program_of}
 use Rattle.gvdl_check.specs.Predicates.{predicate}
@@ -51,6 +54,9 @@ abbrev pub with_collection : Known → List ℕ → List ViewPlan → Known
 with_collection k name views =
     known_of (k.names ++ (name, meaning.Collection (length k.collections)) ∷ []) (k.collections ++ collection_plan name views ∷ []) k.runs (k.steps ++ step.Make (length k.collections) (length views) ∷ [])
 
+abbrev pub with_program : Known → List ℕ → ProgramTemplate → Known
+with_program k name t = known_of (k.names ++ (name, meaning.Program (callable.Written t)) ∷ []) k.collections k.runs (k.steps ++ step.Nothing ∷ [])
+
 abbrev pub with_run : Known → RunPlan → Known
 with_run k run = known_of k.names k.collections (k.runs ++ run ∷ []) (k.steps ++ step.Run (length k.runs) ∷ [])
 
@@ -58,7 +64,7 @@ with_run k run = known_of k.names k.collections (k.runs ++ run ∷ []) (k.steps 
 
 -- the names that stand from the start
 abbrev pub first_names : NameList
-first_names = (codes "hops", meaning.Program built_in.Hops) ∷ (codes "dist", meaning.Program built_in.Dist) ∷ (codes "wcc", meaning.Program built_in.Wcc) ∷ (codes "pagerank", meaning.Program built_in.Pagerank) ∷ []
+first_names = (codes "hops", meaning.Program callable.Hops) ∷ (codes "dist", meaning.Program callable.Dist) ∷ (codes "wcc", meaning.Program callable.Wcc) ∷ (codes "pagerank", meaning.Program callable.Pagerank) ∷ []
 
 abbrev pub load : List ℕ → Judged Known
 load graph = do
@@ -81,23 +87,19 @@ collection g k name base items = do
   views ← views_of g rules items
   Ok (with_collection k name views)
 
--- ---- runs
+-- ---- programs
 
--- so far `hops` alone is built
-abbrev pub built : BuiltIn → Judged (Unit {0})
-built built_in.Hops = Ok tt
-built built_in.Dist = Err refusal.NotBuilt
-built built_in.Wcc = Err refusal.NotBuilt
-built built_in.Pagerank = Err refusal.NotBuilt
+abbrev pub program : GraphData → Known → List ℕ → (params : List (List ℕ)) → Along → (start send : ExprTree) → Gather → ExprTree → Judged Known
+program g k name params along start send gather update = do
+  new_name k.names name
+  t ← declared g params along start send gather update
+  Ok (with_program k name t)
+
+-- ---- runs
 
 -- so far a run is without order, split and keep
 abbrev pub is_plain : Option OrderWord → Option SplitWord → Option (List ℕ) → Bool
 is_plain o d keep = is_none o && (is_none d && is_none keep)
-
--- a call of `hops` has one argument, a number
-abbrev pub source_of : List Arg → Judged ℤ
-source_of (arg.Number z ∷ []) = Ok z
-source_of _ = Err refusal.WrongArguments
 
 abbrev pub are_rounds : ℕ → Bool
 are_rounds n = nat_le 1 n && nat_le n 1_000_000
@@ -113,29 +115,29 @@ rounds_of within n = do
   Ok (rounds_with within n)
 
 -- a run without order is greedy, and one without split is whole
-abbrev pub run_plan : ℕ → Call → ℤ → Rounds → RunPlan
-run_plan place call source limit = record { collection = place; call = call; program = hops source; rounds = limit; order = order.Greedy; split = split.Whole; keep = None }
+abbrev pub run_plan : ℕ → Call → Program → Rounds → RunPlan
+run_plan place call meant limit = record { collection = place; call = call; program = meant; rounds = limit; order = order.Greedy; split = split.Whole; keep = None }
 
-abbrev pub plain_run : Known → Call → List ℕ → Bool → ℕ → Judged Known
-plain_run k call target within number = do
-  program ← program_of k.names call.name
-  built program
+abbrev pub plain_run : GraphData → Known → Call → List ℕ → Bool → ℕ → Judged Known
+plain_run g k call target within number = do
+  found ← program_of k.names call.name
   place ← collection_of k.names target
-  source ← source_of call.args
+  meant ← called g found call.args
   limit ← rounds_of within number
-  Ok (with_run k (run_plan place call source limit))
+  Ok (with_run k (run_plan place call meant limit))
 
-abbrev pub run : Known → Call → List ℕ → Bool → ℕ → Option OrderWord → Option SplitWord → Option (List ℕ) → Judged Known
-run k call target within number o d keep = do
+abbrev pub run : GraphData → Known → Call → List ℕ → Bool → ℕ → Option OrderWord → Option SplitWord → Option (List ℕ) → Judged Known
+run g k call target within number o d keep = do
   expect (is_plain o d keep) refusal.NotBuilt
-  plain_run k call target within number
+  plain_run g k call target within number
 
 -- ---- scripts
 
 abbrev pub statement_judged : GraphData → Known → Statement → Judged Known
 statement_judged g k (statement.View name base tree) = single g k name base tree
 statement_judged g k (statement.Collection name base items) = collection g k name base items
-statement_judged g k (statement.Run call target within number o d keep) = run k call target within number o d keep
+statement_judged g k (statement.Program name params along start send gather update) = program g k name params along start send gather update
+statement_judged g k (statement.Run call target within number o d keep) = run g k call target within number o d keep
 statement_judged g k _ = Err refusal.NotBuilt
 
 abbrev pub plan_of : Known → Plan

@@ -1,9 +1,8 @@
 -- Predicates against the columns of a graph: each property is a column, and what is compared is of one kind.
-use Rattle.std.specs.Prelude.{ℕ, ◌+◌, Bool, true, false, List, [], ◌∷◌, Ok, Err, if◌then◌else◌, bytes_eq}
+use Rattle.std.specs.Prelude.{ℕ, Bool, true, false, List, Ok}
 use Rattle.graph_model.specs.GraphData.{GraphData}
 use Rattle.graph_model.specs.declared.cell.Kind.{Kind}
 use Rattle.graph_model.specs.declared.cell.Kind.TheVariants as kind
-use Rattle.graph_model.specs.declared.cell.Column.{Column}
 use Rattle.gvdl_tree.specs.declared.predicate.Cmp.{Cmp}
 use Rattle.gvdl_tree.specs.declared.predicate.Cmp.TheVariants as cmp
 use Rattle.gvdl_tree.specs.declared.predicate.Field.{Field}
@@ -19,8 +18,9 @@ use Rattle.edge_predicates.specs.declared.pred.Place.{Place}
 use Rattle.edge_predicates.specs.declared.pred.Place.TheVariants as place
 use Rattle.edge_predicates.specs.declared.pred.Pred.{Pred}
 use Rattle.edge_predicates.specs.declared.pred.Pred.TheVariants as pred
-use Rattle.gvdl_check.specs.declared.refusal.Refusal.TheVariants as refusal
-use Rattle.gvdl_check.specs.Judging.{Judged, ◌>>=◌, ◌>>◌, expect, each}
+use Rattle.gvdl_programs.specs.declared.refusal.Refusal.TheVariants as refusal
+use Rattle.gvdl_programs.specs.Judging.{Judged, ◌>>=◌, ◌>>◌, expect, each}
+use Rattle.gvdl_programs.specs.Columns.{column_of}
 
 -- ---- signs
 
@@ -43,16 +43,6 @@ compares kind.Int sign kind.Int = true
 compares kind.Str sign kind.Str = true
 compares kind.Bool sign kind.Bool = is_equality sign
 compares _ sign _ = false
-
--- ---- properties
-
--- the place and the kind of the column with this name, where the first of these has place n
-abbrev pub column_from : ℕ → List Column → List ℕ → Judged (ℕ × Kind)
-column_from n [] name = Err refusal.UnknownProperty
-column_from n (column ∷ more) name = if bytes_eq column.name name then Ok (n, column.kind) else column_from (n + 1) more name
-
-abbrev pub column_of : List Column → List ℕ → Judged (ℕ × Kind)
-column_of columns name = column_from 0 columns name
 
 -- ---- what is read for a side of a comparison, and its kind
 

@@ -1,10 +1,8 @@
 -- The views that the items of a collection make.
-use Rattle.std.specs.Prelude.{ℕ, ℤ, pos, ◌+◌, ◌*◌, ◌/◌, ◌+ℤ◌, ◌-ℤ◌, int_le, unsigned_abs, ◌==◌, nat_lt, Bool, true, false, not, ◌&&◌, List, [], ◌∷◌, ◌++◌, length, Ok, bytes_eq, codes}
+use Rattle.std.specs.Prelude.{ℕ, ℤ, pos, ◌+◌, ◌*◌, ◌/◌, ◌+ℤ◌, ◌-ℤ◌, int_le, unsigned_abs, ◌==◌, nat_lt, Bool, not, ◌&&◌, List, [], ◌∷◌, ◌++◌, length, Ok, bytes_eq, codes}
 use Rattle.std.specs.List.{list_any, range_with_len}
 use Rattle.std.specs.Fmt.{decimal}
 use Rattle.graph_model.specs.GraphData.{GraphData}
-use Rattle.graph_model.specs.declared.cell.Kind.{Kind}
-use Rattle.graph_model.specs.declared.cell.Kind.TheVariants as kind
 use Rattle.gvdl_tree.specs.declared.predicate.PredTree.{PredTree}
 use Rattle.gvdl_tree.specs.declared.script.Item.{Item}
 use Rattle.gvdl_tree.specs.declared.script.ItemBody.{ItemBody}
@@ -13,10 +11,12 @@ use Rattle.edge_predicates.specs.declared.pred.Cmp.TheVariants as checked
 use Rattle.edge_predicates.specs.declared.pred.Place.TheVariants as place
 use Rattle.edge_predicates.specs.declared.pred.Pred.{Pred}
 use Rattle.edge_predicates.specs.declared.pred.Pred.TheVariants as pred
+use Rattle.vertex_lang.specs.Leaves.{is_int}
 use Rattle.gvdl_check.specs.declared.plan.ViewPlan.{ViewPlan}
-use Rattle.gvdl_check.specs.declared.refusal.Refusal.TheVariants as refusal
-use Rattle.gvdl_check.specs.Judging.{Judged, ◌>>=◌, ◌>>◌, expect, in_turn}
-use Rattle.gvdl_check.specs.Predicates.{column_of, predicate}
+use Rattle.gvdl_programs.specs.declared.refusal.Refusal.TheVariants as refusal
+use Rattle.gvdl_programs.specs.Judging.{Judged, ◌>>=◌, ◌>>◌, expect, in_turn}
+use Rattle.gvdl_programs.specs.Columns.{column_of}
+use Rattle.gvdl_check.specs.Predicates.{predicate}
 
 -- a view of a collection on a base with these predicates
 abbrev pub view_on : List Pred → List ℕ → Pred → ViewPlan
@@ -43,11 +43,6 @@ rule_added g base views name tree = do
   Ok (views ++ view_on base name p ∷ [])
 
 -- ---- a window
-
-abbrev pub is_int : Kind → Bool
-is_int kind.Int = true
-is_int kind.Str = false
-is_int kind.Bool = false
 
 -- 2^63 - 1, above which no number of a predicate is
 abbrev pub greatest : ℤ

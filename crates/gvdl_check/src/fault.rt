@@ -1,8 +1,10 @@
 //! Why a script has no plan.
 
 ghost use Rattle.std.specs.Prelude.{◌≡◌};
+ghost use Rattle.gvdl_check.specs.Faults.{fault_at, stop_at};
 
 use gvdl_parser::ScriptFault;
+use gvdl_programs::{Refusal, Stop};
 use surge_outside::NoMemory;
 use thiserror::Error;
 
@@ -27,5 +29,31 @@ impl From<NoMemory> for CheckFault {
 
     fn from(_error: NoMemory) -> CheckFault {
         CheckFault::NoMemory
+    }
+}
+
+// A refusal of the statement with this number.
+fn fault_at(refusal: Refusal, statement: u32) -> CheckFault
+    ensures { result ≡ fault_at statement refusal }
+{
+    match refusal {
+        Refusal::NotBuilt => CheckFault::NotBuilt(statement),
+        Refusal::UnknownName => CheckFault::Fault(ScriptFault::UnknownName(statement)),
+        Refusal::RepeatedName => CheckFault::Fault(ScriptFault::RepeatedName(statement)),
+        Refusal::UnknownProperty => CheckFault::Fault(ScriptFault::UnknownProperty(statement)),
+        Refusal::WrongType => CheckFault::Fault(ScriptFault::WrongType(statement)),
+        Refusal::WrongArguments => CheckFault::Fault(ScriptFault::WrongArguments(statement)),
+        Refusal::TooManyViews => CheckFault::Fault(ScriptFault::TooManyViews(statement)),
+        Refusal::BadRounds => CheckFault::Fault(ScriptFault::BadRounds(statement)),
+    }
+}
+
+/// Why the judging of the statement with this number came to an end.
+pub(crate) fn stop_at(stop: Stop, statement: u32) -> CheckFault
+    ensures { result ≡ stop_at statement stop }
+{
+    match stop {
+        Stop::Refused(refusal) => fault_at(refusal, statement),
+        Stop::NoMemory => CheckFault::NoMemory,
     }
 }

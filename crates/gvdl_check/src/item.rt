@@ -1,16 +1,16 @@
 //! Views of collections.
 
 ghost use Rattle.std.specs.Prelude.{◌≡◌, ◌<◌, ◌++◌, [], ◌∷◌, length, OnOk};
-ghost use Rattle.gvdl_check.specs.Judging.{Tells, Leaves};
+ghost use Rattle.gvdl_programs.specs.Judging.{Tells, Leaves};
 ghost use Rattle.gvdl_check.specs.Views.{view_on, has_view, new_view, room, rule_added, item_added, views_of};
 
 use crate::copies::{copied_preds, copied_text};
 use crate::plan::ViewPlan;
 use crate::predicate::predicate;
-use crate::refusal::{Refusal, Stop};
 use crate::window::{Window, add_windows};
 use edge_predicates::{Pred, ViewRule};
 use graph_model::Graph;
+use gvdl_programs::{Refusal, Stop};
 use gvdl_tree::{Item, ItemBody, PredTree};
 use std::alloc::Global;
 use surge_outside::{List, NoMemory, Text};

@@ -1,30 +1,22 @@
 //! The names of a script and what they mean.
 
 ghost use Rattle.std.specs.Prelude.{◌≡◌, ◌++◌, ◌∷◌, [], None, option_copied, OnOk, IfOk};
-ghost use Rattle.gvdl_check.specs.Judging.{Tells};
-ghost use Rattle.gvdl_check.specs.Names.{meaning_of, new_name, base_of, collection_of, program_of};
+ghost use Rattle.gvdl_programs.specs.Judging.{Tells};
+ghost use Rattle.gvdl_check.specs.Names.{meaning_of, new_name, base_of, collection_of, program_named};
 
 use crate::copies::copied_preds;
-use crate::refusal::{Refusal, Stop};
 use edge_predicates::Pred;
+use gvdl_programs::{Callable, Refusal, Stop};
 use indexmap::IndexMap;
 use std::alloc::Global;
 use std::marker::Model;
 use surge_outside::{List, NoMemory};
 
-/// A built-in program.
-#[derive(Clone, Copy, Debug, PartialEq, Eq)]
-pub(crate) enum BuiltIn {
-    Hops,
-    Dist,
-    Wcc,
-    Pagerank,
-}
-
 /// What a name stands for.
-#[derive(Debug, Drop)]
+#[derive(Drop)]
 pub(crate) enum Meaning {
-    Program(BuiltIn),
+    /// A built-in program, or one that the script wrote.
+    Program(Callable),
     /// The graph or a single view, with the predicates of all views down to the graph.
     Base(List<Pred>),
     /// The collection with this place.
@@ -45,8 +37,9 @@ impl Model for Names {
 
     ghost use Rattle.std.specs.Coded.{codes};
     ghost use Rattle.edge_predicates.specs.contracts.pred.Pred as pred_contract;
+    ghost use Rattle.gvdl_programs.specs.contracts.template.Callable as callable_contract;
 
-    ghost coded = { Prim.hlevel (codes, pred_contract.the_row.coded) };
+    ghost coded = { Prim.hlevel (codes, pred_contract.the_row.coded, callable_contract.the_row.coded) };
 
     ghost use Rattle.std.specs.Prelude.{map, string_bytes};
 
@@ -118,13 +111,13 @@ impl Names {
         }
     }
 
-    /// The program that has this name.
-    pub(crate) fn program(&self, name: &str) -> Result<BuiltIn, Stop>
-        ensures { Tells (program_of self.now name.now) result }
+    /// The program that has this name, where there is one.
+    pub(crate) fn program(&self, name: &str) -> Option<&Callable>
+        ensures { option_copied result ≡ program_named self.now name.now }
     {
         match self.meaning(name) {
-            Some(Meaning::Program(program)) => Ok(*program),
-            _ => Err(Stop::Refused(Refusal::UnknownName)),
+            Some(Meaning::Program(program)) => Some(program),
+            _ => None,
         }
     }
 }

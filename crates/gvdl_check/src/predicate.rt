@@ -1,13 +1,13 @@
 //! Predicates against the columns of a graph.
 
-ghost use Rattle.std.specs.Prelude.{◌≡◌, ◌≤◌, length, map};
-ghost use Rattle.gvdl_check.specs.Judging.{Tells, each};
-ghost use Rattle.gvdl_check.specs.Predicates.{sign_of, is_equality, compares, column_from, column_of, source_placed, target_placed, edge_placed, placed, comparison, predicate};
+ghost use Rattle.std.specs.Prelude.{◌≡◌, map};
+ghost use Rattle.gvdl_programs.specs.Judging.{Tells, each};
+ghost use Rattle.gvdl_check.specs.Predicates.{sign_of, is_equality, compares, source_placed, target_placed, edge_placed, placed, comparison, predicate};
 
 use crate::copies::copied_text;
-use crate::refusal::{Refusal, Stop};
 use edge_predicates::{Cmp as CheckedCmp, Place, Pred};
-use graph_model::{Column, Graph, Kind};
+use graph_model::{Graph, Kind};
+use gvdl_programs::{Refusal, Stop, column_of};
 use gvdl_tree::{Cmp, Field, Operand, PredTree};
 use std::alloc::Global;
 use surge_outside::{Boxed, List};
@@ -48,23 +48,6 @@ fn compares(first: Kind, sign: Cmp, second: Kind) -> bool
         (Kind::Bool, Kind::Bool) => is_equality(sign),
         _ => false,
     }
-}
-
-/// The place and the kind of the column with this name.
-pub(crate) fn column_of(columns: &[Column], name: &str) -> Result<(u32, Kind), Stop>
-    requires { length columns.now ≤ 16 }
-    ensures { Tells (column_of columns.now name.now) result }
-{
-    let mut place = 0;
-    let mut left = columns;
-    'columns: while let [column, rest @ ..] = left {
-        if column.name.as_str() == name {
-            return Ok((place, column.kind));
-        }
-        place += 1;
-        left = rest;
-    }
-    Err(Stop::Refused(Refusal::UnknownProperty))
 }
 
 fn source_placed(graph: &Graph, field: &Field) -> Result<(Place, Kind), Stop>

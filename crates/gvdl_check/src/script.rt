@@ -9,7 +9,7 @@ ghost use Rattle.gvdl_check.specs.Plans.{plan};
 ghost use Rattle.gvdl_check.specs.Fits.{PlanFits};
 ghost use Rattle.gvdl_check.specs.Written.{IsWritten};
 
-use crate::fault::CheckFault;
+use crate::fault::{CheckFault, stop_at};
 use crate::known::Known;
 use crate::plan::Plan;
 use crate::statement::{add_statement, load};
@@ -48,13 +48,13 @@ fn judged(alloc: Global, script: &Script, graph: &Graph) -> Result<Plan, CheckFa
 {
     let mut known = match load(alloc, script.graph.as_str()) {
         Ok(known) => known,
-        Err(stop) => return Err(stop.at(1)),
+        Err(stop) => return Err(stop_at(stop, 1)),
     };
     let mut number = 1;
     for statement in script.statements.as_slice() {
         number += 1;
         if let Err(stop) = add_statement(alloc, graph, &mut known, statement) {
-            return Err(stop.at(number));
+            return Err(stop_at(stop, number));
         }
     }
     Ok(known.into_plan())

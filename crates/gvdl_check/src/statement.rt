@@ -1,34 +1,34 @@
 //! Statements over what is known before them.
 
 ghost use Rattle.std.specs.Prelude.{◌≡◌, ◌<◌, ◌^◌, length, IfOk};
-ghost use Rattle.gvdl_check.specs.Judging.{Tells, Leaves};
-ghost use Rattle.gvdl_check.specs.Plans.{first_names, load, single, collection, run_plan, plain_run, statement_judged};
+ghost use Rattle.gvdl_programs.specs.Judging.{Tells, Leaves};
+ghost use Rattle.gvdl_check.specs.Plans.{first_names, load, single, collection, program, run_plan, plain_run, statement_judged};
+ghost use Rattle.gvdl_check.specs.Fits.{ProgramsFit};
 
-use crate::call::{expect_built, is_plain, rounds_of, source_of};
+use crate::call::{is_plain, rounds_of};
 use crate::copies::{copied_call, copied_text};
 use crate::item::views_of;
 use crate::known::Known;
-use crate::names::{BuiltIn, Meaning, Names};
+use crate::names::{Meaning, Names};
 use crate::plan::{CollectionPlan, OrderRule, RunPlan, Step};
 use crate::predicate::predicate;
-use crate::refusal::{Refusal, Stop};
-use graph_algos::hops;
 use graph_model::Graph;
-use gvdl_tree::{Call, Item, PredTree, Statement};
+use gvdl_programs::{Callable, Refusal, Stop, call as called, declare};
+use gvdl_tree::{Along, Call, ExprTree, Gather, Item, PredTree, Statement};
 use segment_split::SplitRule;
 use std::alloc::Global;
 use surge_outside::{List, NoMemory, Text};
-use vertex_lang::Rounds;
+use vertex_lang::{Program, Rounds};
 
 // The names that stand from the start.
 fn first_names(alloc: Global) -> Result<Names, NoMemory>
     ensures { IfOk result (λ names. names ≡ first_names) }
 {
     let mut names = Names::new(alloc);
-    names.add(alloc, "hops", Meaning::Program(BuiltIn::Hops))?;
-    names.add(alloc, "dist", Meaning::Program(BuiltIn::Dist))?;
-    names.add(alloc, "wcc", Meaning::Program(BuiltIn::Wcc))?;
-    names.add(alloc, "pagerank", Meaning::Program(BuiltIn::Pagerank))?;
+    names.add(alloc, "hops", Meaning::Program(Callable::Hops))?;
+    names.add(alloc, "dist", Meaning::Program(Callable::Dist))?;
+    names.add(alloc, "wcc", Meaning::Program(Callable::Wcc))?;
+    names.add(alloc, "pagerank", Meaning::Program(Callable::Pagerank))?;
     Ok(names)
 }
 
@@ -94,20 +94,42 @@ fn add_collection(
     Ok(())
 }
 
-// The plan of a run of `hops`.
+// A program that the script writes.
+fn add_program(
+    alloc: Global,
+    graph: &Graph,
+    known: &mut Known,
+    name: &str,
+    params: &[Text],
+    along: Along,
+    start: &ExprTree,
+    send: &ExprTree,
+    gather: Gather,
+    update: &ExprTree,
+) -> Result<(), Stop>
+    ensures { Leaves (program graph.now known.old name.now params.now along start.now send.now gather update.now) result known.new }
+{
+    known.names.expect_new(name)?;
+    let template = declare(alloc, graph, params, along, start, send, gather, update)?;
+    let meaning = Meaning::Program(Callable::Written(template));
+    known.names.add(alloc, name, meaning)?;
+    known.steps.push(Step::Nothing)?;
+    Ok(())
+}
+
 fn run_plan(
     alloc: Global,
     collection: u32,
     call: &Call,
-    source: i64,
+    program: Program,
     rounds: Rounds,
 ) -> Result<RunPlan, NoMemory>
-    ensures { IfOk result (λ plan. plan ≡ run_plan collection call.now source rounds) }
+    ensures { IfOk result (λ plan. plan ≡ run_plan collection call.now program rounds) }
 {
     Ok(RunPlan {
         collection,
         call: copied_call(alloc, call)?,
-        program: hops(alloc, source)?,
+        program,
         rounds,
         order: OrderRule::Greedy,
         split: SplitRule::Whole,
@@ -118,22 +140,26 @@ fn run_plan(
 // Of a run of the form that is built.
 fn add_run(
     alloc: Global,
+    graph: &Graph,
     known: &mut Known,
     call: &Call,
     target: &str,
     within: bool,
     number: u64,
 ) -> Result<(), Stop>
-    requires { length known.old.runs < 2 ^ 32 }
-    ensures { Leaves (plain_run known.old call.now target.now within number) result known.new }
+    requires runs { length known.old.runs < 2 ^ 32 }
+    requires programs { ProgramsFit graph.now known.old.names }
+    ensures { Leaves (plain_run graph.now known.old call.now target.now within number) result known.new }
 {
-    let program = known.names.program(call.name.as_str())?;
-    expect_built(program)?;
+    let callable = match known.names.program(call.name.as_str()) {
+        Some(callable) => callable,
+        None => return Err(Stop::Refused(Refusal::UnknownName)),
+    };
     let collection = known.names.collection(target)?;
-    let source = source_of(call.args.as_slice())?;
+    let program = called(alloc, graph, callable, call.args.as_slice())?;
     let rounds = rounds_of(within, number)?;
     let run = known.runs.len() as u32;
-    let plan = run_plan(alloc, collection, call, source, rounds)?;
+    let plan = run_plan(alloc, collection, call, program, rounds)?;
     known.runs.push(plan)?;
     known.steps.push(Step::Run { run })?;
     Ok(())
@@ -148,6 +174,7 @@ pub(crate) fn add_statement(
 ) -> Result<(), Stop>
     requires collections { length known.old.collections < 2 ^ 32 }
     requires runs { length known.old.runs < 2 ^ 32 }
+    requires programs { ProgramsFit graph.now known.old.names }
     ensures { Leaves (statement_judged graph.now known.old statement.now) result known.new }
 {
     match statement {
@@ -157,6 +184,26 @@ pub(crate) fn add_statement(
         Statement::Collection { name, base, items } => {
             add_collection(alloc, graph, known, name, base.as_str(), items.as_slice())
         }
+        Statement::Program {
+            name,
+            params,
+            along,
+            start,
+            send,
+            gather,
+            update,
+        } => add_program(
+            alloc,
+            graph,
+            known,
+            name.as_str(),
+            params.as_slice(),
+            *along,
+            start,
+            send,
+            *gather,
+            update,
+        ),
         Statement::Run {
             call,
             target,
@@ -167,7 +214,7 @@ pub(crate) fn add_statement(
             keep,
         } => {
             if is_plain(order, split, keep) {
-                add_run(alloc, known, call, target.as_str(), *within, *number)
+                add_run(alloc, graph, known, call, target.as_str(), *within, *number)
             } else {
                 Err(Stop::Refused(Refusal::NotBuilt))
             }

@@ -2,15 +2,15 @@
 
 ghost use Rattle.std.specs.Prelude.{◌≡◌, ◌<◌, ◌-◌, ◌^◌, ◌≤ℤ◌, ◌+ℤ◌, ◌*◌, pos, int_le, IsTrue, IfOk};
 ghost use Rattle.std.specs.List.{range_with_len};
-ghost use Rattle.gvdl_check.specs.Judging.{Tells, Leaves, in_turn};
-ghost use Rattle.gvdl_check.specs.Views.{is_int, greatest, is_window, window_count, window_name, bounded, window_added, windows_added};
+ghost use Rattle.gvdl_programs.specs.Judging.{Tells, Leaves, in_turn};
+ghost use Rattle.vertex_lang.specs.Leaves.{is_int};
+ghost use Rattle.gvdl_check.specs.Views.{greatest, is_window, window_count, window_name, bounded, window_added, windows_added};
 
 use crate::item::{add_view, expect_new_view, expect_room};
 use crate::plan::ViewPlan;
-use crate::predicate::column_of;
-use crate::refusal::{Refusal, Stop};
 use edge_predicates::{Cmp, Place, Pred};
 use graph_model::{Graph, Kind};
+use gvdl_programs::{Refusal, Stop, column_of};
 use std::alloc::Global;
 use surge_outside::{List, NoMemory, Text};
 

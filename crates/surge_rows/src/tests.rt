@@ -8,6 +8,7 @@ mod data_files;
 mod first_path;
 mod language;
 mod large_files;
+mod programs;
 mod refusals;
 mod script_form;
 mod statements;
@@ -28,6 +29,12 @@ const SCRIPT: &str =
 
 const TABLES: &str =
     "view C.a hops(1) settled 2\n1,0\n2,1\n3,2\n4,-\nend\nview C.b hops(1) settled 1\n1,0\n2,1\n3,1\n4,-\nend\nview C.c hops(1) settled 2\n1,0\n2,-\n3,1\n4,2\nend\n";
+
+const PHONES: &str =
+    "id,city:str,vip:bool\r\n10,Los Angeles,true\r\n20,\"San Jose, CA\",false\r\n30,Reno,\r\n40,Los Angeles,True\r\n";
+
+const CALLS: &str =
+    "src,dst,duration:int,year:int\r\n10,20,7,2010\r\n20,30,12,2015\r\n10,40,34,2019\r\n40,10,1,2019\r\n";
 
 // Runs the program with these words over these files.
 fn run(rt: &HostRuntime, words: &[&str], files: &Contents<'_>, ends: Ends) -> Result<Left, Fail>

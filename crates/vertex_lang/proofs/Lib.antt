@@ -1,5 +1,10 @@
-pub mod Least
+pub mod ArcFacts
+pub mod Wide
+pub mod Extremes
+pub mod Chains
 pub mod Degrees
 pub mod Deliveries
 pub mod Updates
 pub mod Settling
+pub mod SmallGraphs
+pub mod Alikes

@@ -1,6 +1,7 @@
 pub mod Values
 pub mod Leaves
 pub mod Expressions
+pub mod Naming
 pub mod Trees
 pub mod Arcs
 pub mod Rounds
@@ -8,3 +9,4 @@ pub mod Lone
 pub mod LowestGiven
 pub mod SameArc
 pub mod Mail
+pub mod Alike

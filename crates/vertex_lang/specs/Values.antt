@@ -1,7 +1,9 @@
 -- Arithmetic of values: exact, and then brought into the range of values.
-use Rattle.std.specs.Prelude.{ℤ, pos, negsuc, ◌+ℤ◌, ◌-ℤ◌, int_lt, int_le, Bool, true, false, not, if◌then◌else◌}
+use Rattle.std.specs.Prelude.{ℤ, pos, negsuc, ◌+ℤ◌, ◌-ℤ◌, ◌*ℤ◌, neg_ℤ, int_lt, int_le, Bool, true, false, not, if◌then◌else◌, List, [], ◌∷◌}
 use Rattle.std.specs.Ordering.{int_eq}
-use Rattle.std.specs.Int.{int_min}
+use Rattle.std.specs.Int.{int_min, int_max}
+use Rattle.std.specs.Int.RustNames.{int_div}
+use Rattle.graph_model.specs.GraphData.{Cell}
 use Rattle.graph_model.specs.declared.value.Val.{Val}
 use Rattle.graph_model.specs.declared.value.Val.TheVariants.{Nil, Num}
 use Rattle.vertex_lang.specs.declared.program.Cmp.{Cmp}
@@ -37,11 +39,45 @@ added plus Nil y = Nil
 added plus (Num a) Nil = Nil
 added plus (Num a) (Num b) = Num (clamped (exact_sum plus a b))
 
+-- the product of two values; of none it is none
+abbrev pub multiplied : Val → Val → Val
+multiplied Nil y = Nil
+multiplied (Num a) Nil = Nil
+multiplied (Num a) (Num b) = Num (clamped (a *ℤ b))
+
+-- the quotient of two values, cut towards zero; of none it is none, and by 0 too
+abbrev pub divided : Val → Val → Val
+divided Nil y = Nil
+divided (Num a) Nil = Nil
+divided (Num a) (Num b) = if int_eq b (pos 0) then Nil else Num (clamped (int_div a b))
+
+-- the product (true) or the quotient (false)
+abbrev pub scaled : Bool → Val → Val → Val
+scaled true x y = multiplied x y
+scaled false x y = divided x y
+
+-- with the other sign; of none it is none
+abbrev pub negated : Val → Val
+negated Nil = Nil
+negated (Num a) = Num (clamped (neg_ℤ a))
+
+-- the first of some values that isn't none, and else none
+abbrev pub first_given : List Val → Val
+first_given [] = Nil
+first_given (Nil ∷ vs) = first_given vs
+first_given (Num a ∷ vs) = Num a
+
 -- the lesser of two values, where none isn't counted
 abbrev pub lesser : Val → Val → Val
 lesser Nil y = y
 lesser (Num a) Nil = Num a
 lesser (Num a) (Num b) = Num (int_min a b)
+
+-- the greater of two values, where none isn't counted
+abbrev pub greater : Val → Val → Val
+greater Nil y = y
+greater (Num a) Nil = Num a
+greater (Num a) (Num b) = Num (int_max a b)
 
 abbrev pub in_range : Val → Val
 in_range Nil = Nil
@@ -62,3 +98,16 @@ abbrev pub compares : Cmp → Val → Val → Bool
 compares sign Nil y = false
 compares sign (Num a) Nil = false
 compares sign (Num a) (Num b) = number_compares sign a b
+
+abbrev pub is_nil : Val → Bool
+is_nil Nil = true
+is_nil (Num a) = false
+
+-- ---- what is read
+
+-- what a cell holds, as a value: none where it is absent
+abbrev pub value_of_cell : Cell → Val
+value_of_cell Cell.absent = Nil
+value_of_cell (Cell.int z) = Num z
+value_of_cell (Cell.str bytes) = Nil
+value_of_cell (Cell.bool b) = Nil

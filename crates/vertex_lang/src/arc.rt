@@ -1,7 +1,7 @@
 //! The arcs of a view.
 
-ghost use Rattle.std.specs.Prelude.{◌≡◌, ◌<◌, ◌≤◌, ◌*◌, length, All, IfOk};
-ghost use Rattle.vertex_lang.specs.Arcs.{arcs_between, forward, IsArc};
+ghost use Rattle.std.specs.Prelude.{◌≡◌, ◌<◌, ◌≤◌, ◌*◌, ◌++◌, length, All, IfOk, OnOk};
+ghost use Rattle.vertex_lang.specs.Arcs.{arcs_between, arcs_of_edge, forward, backward, IsArc};
 
 use crate::program::Along;
 use graph_model::{EdgeNo, Graph, NodeNo};
@@ -24,7 +24,8 @@ impl Record for Arc {
     ghost same = { arc_same };
 }
 
-/// The arcs of these edges, in their order. Along `Out` an edge gives the arc from its source to its destination.
+/// The arcs of these edges, in their order. Along `Out` an edge gives the arc from its source to its destination, along
+/// `In` the one back, and along `Both` first the one and then the other, also where it leads from a node to itself.
 /// Parallel edges each give their own. The error is want of memory.
 pub fn arcs_of(
     alloc: Global,
@@ -39,11 +40,32 @@ pub fn arcs_of(
 {
     let mut arcs = List::new(alloc);
     for edge in edges {
-        match along {
-            Along::Out => arcs.push(forward_arc(graph, *edge))?,
-        }
+        push_arcs(&mut arcs, graph, along, *edge)?;
     }
     Ok(arcs)
+}
+
+// Adds the arcs of one edge.
+fn push_arcs(
+    arcs: &mut List<Arc>,
+    graph: &Graph,
+    along: Along,
+    edge: EdgeNo,
+) -> Result<(), NoMemory>
+    requires { edge.0 < length graph.now.ends }
+    ensures arcs { OnOk result (arcs.new ≡ arcs.old ++ arcs_of_edge along graph.now edge) }
+    ensures within { All (IsArc graph.now) (arcs_of_edge along graph.now edge) }
+{
+    let forward = forward_arc(graph, edge);
+    let backward = backward_arc(graph, edge);
+    match along {
+        Along::Out => arcs.push(forward),
+        Along::In => arcs.push(backward),
+        Along::Both => {
+            arcs.push(forward)?;
+            arcs.push(backward)
+        }
+    }
 }
 
 // The arc from the source of an edge to its destination.
@@ -57,5 +79,19 @@ fn forward_arc(graph: &Graph, edge: EdgeNo) -> Arc
         head: graph.dst(edge),
         edge,
         back: false,
+    }
+}
+
+// The arc from the destination of an edge to its source.
+fn backward_arc(graph: &Graph, edge: EdgeNo) -> Arc
+    requires { edge.0 < length graph.now.ends }
+    ensures arc { result ≡ backward graph.now edge }
+    ensures within { IsArc graph.now result }
+{
+    Arc {
+        tail: graph.dst(edge),
+        head: graph.src(edge),
+        edge,
+        back: true,
     }
 }

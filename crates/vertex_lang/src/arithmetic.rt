@@ -1,7 +1,7 @@
 //! Arithmetic of values.
 
 ghost use Rattle.std.specs.Prelude.{◌≡◌, ◌<ℤ◌, ◌≤ℤ◌, pos, negsuc};
-ghost use Rattle.vertex_lang.specs.Values.{clamped, added, lesser, in_range, compares, number_compares, exact_sum};
+ghost use Rattle.vertex_lang.specs.Values.{clamped, added, multiplied, divided, scaled, negated, lesser, greater, in_range, compares, number_compares, exact_sum, is_nil};
 
 use crate::program::Cmp;
 use graph_model::Val;
@@ -9,8 +9,8 @@ use graph_model::Val;
 /// The greatest number that a value can be, 2^63 - 1. The least one is its negation.
 const GREATEST: i64 = i64::MAX;
 
-// A number brought into the range of values.
-fn clamp_number(number: i128) -> i64
+/// A number brought into the range of values.
+pub(crate) fn clamp_number(number: i128) -> i64
     ensures { result ≡ clamped number }
 {
     if number > i128::from(GREATEST) {
@@ -43,6 +43,49 @@ fn exact(plus: bool, a: i64, b: i64) -> i128
     }
 }
 
+/// The product (true) or the quotient (false), clamped. Of none it is none, and so is a quotient by 0.
+pub(crate) fn scale(times: bool, left: Val, right: Val) -> Val
+    ensures { result ≡ scaled times left right }
+{
+    if times {
+        multiply(left, right)
+    } else {
+        divide(left, right)
+    }
+}
+
+// The product, clamped. Of none it is none.
+fn multiply(left: Val, right: Val) -> Val
+    ensures { result ≡ multiplied left right }
+{
+    match (left, right) {
+        (Val::Num(a), Val::Num(b)) => Val::Num(clamp_number(i128::from(a) * i128::from(b))),
+        _ => Val::Nil,
+    }
+}
+
+// The quotient, cut towards zero and clamped. Of none it is none, and by 0 too.
+fn divide(left: Val, right: Val) -> Val
+    ensures { result ≡ divided left right }
+{
+    match (left, right) {
+        (Val::Num(a), Val::Num(b)) if b != 0 => {
+            Val::Num(clamp_number(i128::from(a) / i128::from(b)))
+        }
+        _ => Val::Nil,
+    }
+}
+
+/// The number with the other sign, clamped. Of none it is none.
+pub(crate) fn negate(value: Val) -> Val
+    ensures { result ≡ negated value }
+{
+    match value {
+        Val::Nil => Val::Nil,
+        Val::Num(number) => Val::Num(clamp_number(-i128::from(number))),
+    }
+}
+
 /// The lesser of two values, where none is not counted.
 pub(crate) fn lesser_of(left: Val, right: Val) -> Val
     ensures { result ≡ lesser left right }
@@ -54,6 +97,17 @@ pub(crate) fn lesser_of(left: Val, right: Val) -> Val
     }
 }
 
+/// The greater of two values, where none is not counted.
+pub(crate) fn greater_of(left: Val, right: Val) -> Val
+    ensures { result ≡ greater left right }
+{
+    match (left, right) {
+        (Val::Nil, given) => given,
+        (given, Val::Nil) => given,
+        (Val::Num(a), Val::Num(b)) => Val::Num(a.max(b)),
+    }
+}
+
 /// The value with its number clamped.
 pub(crate) fn clamp(value: Val) -> Val
     ensures { result ≡ in_range value }
@@ -61,6 +115,16 @@ pub(crate) fn clamp(value: Val) -> Val
     match value {
         Val::Nil => Val::Nil,
         Val::Num(number) => Val::Num(clamp_number(i128::from(number))),
+    }
+}
+
+/// Whether a value is none.
+pub(crate) fn is_none(value: Val) -> bool
+    ensures { result ≡ is_nil value }
+{
+    match value {
+        Val::Nil => true,
+        Val::Num(_) => false,
     }
 }
 

@@ -1,20 +1,21 @@
 //! The value of an expression.
 
-ghost use Rattle.std.specs.Prelude.{◌≡◌, ◌<◌, ◌^◌, fold};
+ghost use Rattle.std.specs.Prelude.{◌≡◌, fold, map};
 ghost use Rattle.std.specs.List.{list_all};
 ghost use Rattle.vertex_lang.specs.Expressions.{value_of, holds_of};
-ghost use Rattle.vertex_lang.specs.Values.{added};
+ghost use Rattle.vertex_lang.specs.Naming.{environment, AreProper};
+ghost use Rattle.vertex_lang.specs.Values.{added, scaled, first_given};
 
-use crate::arithmetic::{add, clamp, compare, lesser_of};
+use crate::arithmetic::{add, clamp, compare, greater_of, is_none, lesser_of, negate, scale};
 use crate::program::{Check, Expr};
 use crate::words::Words;
 use graph_model::Val;
 
 /// The value of an expression where its words stand for these. It takes no memory.
 #[cycle(evaluation)]
-pub(crate) fn evaluate(expr: &Expr, words: &Words) -> Val
-    requires { words.now.id < 2 ^ 63 }
-    ensures { result ≡ value_of expr.now words.now }
+pub(crate) fn evaluate(expr: &Expr, words: &Words<'_>) -> Val
+    requires { AreProper words.now }
+    ensures { result ≡ value_of expr.now (environment words.now) }
 {
     match expr {
         Expr::If(checks, yes, no) => {
@@ -24,9 +25,18 @@ pub(crate) fn evaluate(expr: &Expr, words: &Words) -> Val
                 evaluate(no.get(), words)
             }
         }
+        Expr::Else(members) => first_value(members.as_slice(), words),
         Expr::Sum(first, rest) => {
             let first = evaluate(first.get(), words);
             add_all(first, rest.as_slice(), words)
+        }
+        Expr::Product(first, rest) => {
+            let first = evaluate(first.get(), words);
+            scale_all(first, rest.as_slice(), words)
+        }
+        Expr::Minus(positive) => {
+            let positive = evaluate(positive.get(), words);
+            negate(positive)
         }
         Expr::Number(number) => Val::Num(*number),
         Expr::Nil => Val::Nil,
@@ -34,19 +44,28 @@ pub(crate) fn evaluate(expr: &Expr, words: &Words) -> Val
         Expr::Start => words.start,
         Expr::Value => words.value,
         Expr::Gathered => words.gathered,
+        Expr::Count => Val::Num(words.count as i64),
+        Expr::Outdeg => Val::Num(words.outdeg as i64),
+        Expr::EdgeProp(column) => words.properties.of_edge(*column),
+        Expr::NodeProp(column) => words.properties.of_node(*column),
         Expr::Least(left, right) => {
             let left = evaluate(left.get(), words);
             let right = evaluate(right.get(), words);
             clamp(lesser_of(left, right))
+        }
+        Expr::Most(left, right) => {
+            let left = evaluate(left.get(), words);
+            let right = evaluate(right.get(), words);
+            clamp(greater_of(left, right))
         }
     }
 }
 
 // Whether a test holds.
 #[cycle(evaluation)]
-fn check_holds(check: &Check, words: &Words) -> bool
-    requires { words.now.id < 2 ^ 63 }
-    ensures { result ≡ holds_of check.now words.now }
+fn check_holds(check: &Check, words: &Words<'_>) -> bool
+    requires { AreProper words.now }
+    ensures { result ≡ holds_of check.now (environment words.now) }
 {
     match check {
         Check::Compare(left, sign, right) => {
@@ -54,14 +73,18 @@ fn check_holds(check: &Check, words: &Words) -> bool
             let right = evaluate(right, words);
             compare(*sign, left, right)
         }
+        Check::IsNil(tested) => {
+            let tested = evaluate(tested, words);
+            is_none(tested)
+        }
     }
 }
 
 // Whether all tests hold.
 #[cycle(evaluation)]
-fn all_hold(checks: &[Check], words: &Words) -> bool
-    requires { words.now.id < 2 ^ 63 }
-    ensures { result ≡ list_all (λ check. holds_of check words.now) checks.now }
+fn all_hold(checks: &[Check], words: &Words<'_>) -> bool
+    requires { AreProper words.now }
+    ensures { result ≡ list_all (λ check. holds_of check (environment words.now)) checks.now }
 {
     for check in checks {
         if !check_holds(check, words) {
@@ -71,11 +94,26 @@ fn all_hold(checks: &[Check], words: &Words) -> bool
     true
 }
 
+// The first value that is not none. What stands behind it is not computed.
+#[cycle(evaluation)]
+fn first_value(members: &[Expr], words: &Words<'_>) -> Val
+    requires { AreProper words.now }
+    ensures { result ≡ first_given (map (λ member. value_of member (environment words.now)) members.now) }
+{
+    let mut first = Val::Nil;
+    for member in members {
+        if is_none(first) {
+            first = evaluate(member, words);
+        }
+    }
+    first
+}
+
 // A chain of sums and differences, from the left.
 #[cycle(evaluation)]
-fn add_all(first: Val, rest: &[(bool, Expr)], words: &Words) -> Val
-    requires { words.now.id < 2 ^ 63 }
-    ensures { result ≡ fold (λ sum member. added member.0 sum (value_of member.1 words.now)) first rest.now }
+fn add_all(first: Val, rest: &[(bool, Expr)], words: &Words<'_>) -> Val
+    requires { AreProper words.now }
+    ensures { result ≡ fold (λ sum member. added member.0 sum (value_of member.1 (environment words.now))) first rest.now }
 {
     let mut sum = first;
     for (plus, expr) in rest {
@@ -83,4 +121,18 @@ fn add_all(first: Val, rest: &[(bool, Expr)], words: &Words) -> Val
         sum = add(*plus, sum, value);
     }
     sum
+}
+
+// A chain of products and quotients, from the left.
+#[cycle(evaluation)]
+fn scale_all(first: Val, rest: &[(bool, Expr)], words: &Words<'_>) -> Val
+    requires { AreProper words.now }
+    ensures { result ≡ fold (λ product member. scaled member.0 product (value_of member.1 (environment words.now))) first rest.now }
+{
+    let mut product = first;
+    for (times, expr) in rest {
+        let value = evaluate(expr, words);
+        product = scale(*times, product, value);
+    }
+    product
 }

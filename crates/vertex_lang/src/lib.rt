@@ -4,10 +4,12 @@
 //! way of gathering), the arcs of a view ([`arcs_of`]), the value of each expression ([`start`], [`send`], [`eval`]),
 //! the gathered value ([`gather`]), who computes an update ([`Updater`]), and the plain run of a program
 //! ([`lone_run`]). Contracts see programs, arcs and values as data, and a run as synchronous rounds over all nodes:
-//! the list of values after each round, by node number. The promise to the rooms above: `lone_run` answers the values
-//! of the least round after which nothing changes, or that there is none within the rounds allowed.
+//! the list of values after each round, by node number. The promise to the rooms above: each value is that of the written
+//! rules, and `lone_run` answers the values of the least round after which nothing changes, or that there is none within
+//! the rounds allowed, or where it is asked so the values after exactly so many rounds.
 #![tactic(auto)]
 
+mod alike;
 mod arc;
 mod arithmetic;
 mod evaluate;

@@ -1,15 +1,17 @@
 //! The plain run of a program.
 
-ghost use Rattle.std.specs.Prelude.{◌≡◌, ◌<◌, ◌≤◌, ◌+◌, ◌*◌, ◌^◌, length, map, All, IfOk};
+ghost use Rattle.std.specs.Prelude.{◌≡◌, ◌<◌, ◌≤◌, ◌+◌, ◌*◌, ◌^◌, length, map, All, IfOk, IsTrue};
 ghost use Rattle.vertex_lang.specs.Leaves.{IsChecked};
 ghost use Rattle.vertex_lang.specs.Expressions.{start_of};
 ghost use Rattle.vertex_lang.specs.Arcs.{IsArc};
 ghost use Rattle.vertex_lang.specs.Rounds.{nodes_of, lone};
+ghost use Rattle.vertex_lang.specs.Alike.{IgnoresEdge};
 ghost use Rattle.vertex_lang.specs.Mail.{HasDegrees, RunsTo};
 ghost use Rattle.vertex_lang.specs.Lone.{number_of, answer_of, IsAnswer, IsAfter, OutcomeIs, HasAllValues};
 
+use crate::alike::ignores_edge;
 use crate::arc::Arc;
-use crate::mail::{Mail, count_degrees, empty_mail};
+use crate::mail::{Mail, count_degrees, empty_mail, no_messages};
 use crate::program::Program;
 use crate::round::{advance, start_values};
 use crate::updater::Updater;
@@ -46,7 +48,9 @@ pub struct Lone {
 
 /// Runs a program alone, round by round, over these arcs. All nodes change together, from their start values on. A run
 /// within a number of rounds stops where nothing changes, so it costs the arcs and nodes once for each round until then;
-/// a run for a number of rounds goes through all of them. It calls the updater at most once for each node and round. The error is want of memory, before the first round. (Rounds over all vertices:
+/// a run for a number of rounds goes through all of them. A message that names no property of the edge, and is made of
+/// words, sums and products alone, is computed once for each node, and any other once for each arc. The updater is called
+/// at most once for each node and round. The error is want of memory, before the first round. (Rounds over all vertices:
 /// Malewicz et al. 2010; as the plain run that a view collection is compared with: Sahu and Salihoglu 2021.)
 pub fn lone_run<U: Updater>(
     alloc: Global,
@@ -90,7 +94,9 @@ fn run_within<U: Updater>(
     ensures falls { U.calls updater.old ≤ U.calls updater.new }
 {
     let degrees = count_degrees(alloc, graph, arcs)?;
+    let alike = ignores_edge(&program.send);
     let starts = start_values(alloc, program, graph)?;
+    let mut sent = no_messages(alloc, graph)?;
     let mut mail = empty_mail(alloc, graph)?;
     let mut values = Vec::from_slice(alloc, &starts)?;
     let outcome = run_rounds(
@@ -98,8 +104,10 @@ fn run_within<U: Updater>(
         graph,
         arcs,
         &degrees,
+        alike,
         &starts,
         limit,
+        &mut sent,
         &mut mail,
         &mut values,
         updater,
@@ -117,8 +125,10 @@ fn run_rounds<U: Updater>(
     graph: &Graph,
     arcs: &[Arc],
     degrees: &[u64],
+    alike: bool,
     starts: &[Val],
     limit: u32,
+    sent: &mut [Val],
     mail: &mut [Mail],
     values: &mut [Val],
     updater: &mut U,
@@ -128,7 +138,9 @@ fn run_rounds<U: Updater>(
     requires few { length arcs.now < 2 ^ 32 }
     requires degrees { HasDegrees arcs.now degrees.now }
     requires degrees_size { length degrees.now ≡ length graph.now.ids }
+    requires alike { IsTrue alike → IgnoresEdge program.now.send }
     requires starts { starts.now ≡ map (start_of program.now graph.now) (nodes_of graph.now) }
+    requires sent_size { length sent.old ≡ length graph.now.ids }
     requires mail_size { length mail.old ≡ length graph.now.ids }
     requires values { values.old ≡ starts.now }
     ensures outcome { RunsTo (lone U.answer program.now graph.now arcs.now) limit result values.new }
@@ -136,7 +148,9 @@ fn run_rounds<U: Updater>(
     ensures falls { U.calls updater.old ≤ U.calls updater.new }
 {
     for round in 0..limit {
-        if !advance(program, graph, arcs, degrees, starts, mail, values, updater) {
+        if !advance(
+            program, graph, arcs, degrees, alike, starts, sent, mail, values, updater,
+        ) {
             return Outcome::Settled(round);
         }
     }
@@ -160,7 +174,9 @@ fn run_for<U: Updater>(
     ensures falls { U.calls updater.old ≤ U.calls updater.new }
 {
     let degrees = count_degrees(alloc, graph, arcs)?;
+    let alike = ignores_edge(&program.send);
     let starts = start_values(alloc, program, graph)?;
+    let mut sent = no_messages(alloc, graph)?;
     let mut mail = empty_mail(alloc, graph)?;
     let mut values = Vec::from_slice(alloc, starts.as_slice())?;
     run_each(
@@ -168,8 +184,10 @@ fn run_for<U: Updater>(
         graph,
         arcs,
         &degrees,
+        alike,
         &starts,
         count,
+        &mut sent,
         &mut mail,
         &mut values,
         updater,
@@ -186,8 +204,10 @@ fn run_each<U: Updater>(
     graph: &Graph,
     arcs: &[Arc],
     degrees: &[u64],
+    alike: bool,
     starts: &[Val],
     count: u32,
+    sent: &mut [Val],
     mail: &mut [Mail],
     values: &mut [Val],
     updater: &mut U,
@@ -197,13 +217,17 @@ fn run_each<U: Updater>(
     requires few { length arcs.now < 2 ^ 32 }
     requires degrees { HasDegrees arcs.now degrees.now }
     requires degrees_size { length degrees.now ≡ length graph.now.ids }
+    requires alike { IsTrue alike → IgnoresEdge program.now.send }
     requires starts { starts.now ≡ map (start_of program.now graph.now) (nodes_of graph.now) }
+    requires sent_size { length sent.old ≡ length graph.now.ids }
     requires mail_size { length mail.old ≡ length graph.now.ids }
     requires values { values.old ≡ starts.now }
     ensures values { values.new ≡ lone U.answer program.now graph.now arcs.now count }
     ensures steps { U.calls updater.new ≡ U.calls updater.old + length graph.now.ids * count }
 {
     for _round in 0..count {
-        advance(program, graph, arcs, degrees, starts, mail, values, updater);
+        advance(
+            program, graph, arcs, degrees, alike, starts, sent, mail, values, updater,
+        );
     }
 }

@@ -1,15 +1,15 @@
 //! The parts of a program: its start, its message, and what it gathers.
 
-ghost use Rattle.std.specs.Prelude.{◌≡◌, ◌<◌, ◌^◌, length, sum_by, All, IsTrue, fold, replicate};
+ghost use Rattle.std.specs.Prelude.{◌≡◌, ◌<◌, ◌^◌, length, sum_by, All, IsTrue};
 ghost use Rattle.vertex_lang.specs.Leaves.{IsChecked};
 ghost use Rattle.vertex_lang.specs.Expressions.{start_of, sent_by};
+ghost use Rattle.vertex_lang.specs.Alike.{sent_on_all};
 ghost use Rattle.vertex_lang.specs.Arcs.{gathered_of, repeated, is_sent};
-ghost use Rattle.vertex_lang.specs.Values.{lesser};
 
-use crate::arithmetic::lesser_of;
 use crate::evaluate::evaluate;
+use crate::mail::Mail;
 use crate::program::{Gather, Program};
-use crate::words::Words;
+use crate::words::{Properties, Words};
 use graph_model::{EdgeNo, Graph, NodeNo, Val};
 
 /// The value with which a node starts. It takes no memory.
@@ -25,6 +25,7 @@ pub fn start(program: &Program, graph: &Graph, node: NodeNo) -> Val
         gathered: Val::Nil,
         count: 0,
         outdeg: 0,
+        properties: Properties::Node(graph, node),
     };
     evaluate(&program.start, &words)
 }
@@ -52,40 +53,45 @@ pub fn send(
         gathered: Val::Nil,
         count: 0,
         outdeg,
+        properties: Properties::Edge(graph, edge),
     };
     evaluate(&program.send, &words)
 }
 
-/// The gathered value of messages, each as often as the count beside it. Of no message the least is none. It takes no
-/// memory.
+/// The message of a node where no edge has a property.
+pub(crate) fn send_on_all(
+    program: &Program,
+    graph: &Graph,
+    tail: NodeNo,
+    value: Val,
+    outdeg: u64,
+) -> Val
+    requires tail { tail.0 < length graph.now.ids }
+    requires outdeg { outdeg < 2 ^ 32 }
+    ensures { result ≡ sent_on_all program.now graph.now tail.0 value outdeg }
+{
+    let words = Words {
+        id: graph.id(tail),
+        start: Val::Nil,
+        value,
+        gathered: Val::Nil,
+        count: 0,
+        outdeg,
+        properties: Properties::Nobody,
+    };
+    evaluate(&program.send, &words)
+}
+
+/// The gathered value of messages, each as often as the count beside it. Of no message the least and the greatest are
+/// none, the sum and the count 0. It takes no memory.
 pub fn gather(kind: Gather, messages: &[(Val, u64)]) -> Val
     requires counts { sum_by (λ m. m.1) messages.now < 2 ^ 32 }
     requires sent { All (λ m. IsTrue (is_sent m.0)) messages.now }
     ensures { result ≡ gathered_of kind (repeated messages.now) }
 {
-    match kind {
-        Gather::Min => least_of(messages),
-    }
-}
-
-// The least message that is there at least once.
-fn least_of(messages: &[(Val, u64)]) -> Val
-    ensures { result ≡ gathered_of Gather.Min (repeated messages.now) }
-{
-    let mut least = Val::Nil;
+    let mut mail = Mail::new();
     for (message, count) in messages {
-        least = least_with(least, *message, *count);
+        mail = mail.with_many(kind, *message, *count);
     }
-    least
-}
-
-// The least of a value and a message that is there so often.
-fn least_with(least: Val, message: Val, count: u64) -> Val
-    ensures { result ≡ fold lesser least (replicate count message) }
-{
-    if count > 0 {
-        lesser_of(least, message)
-    } else {
-        least
-    }
+    mail.gathered(kind)
 }

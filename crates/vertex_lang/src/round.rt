@@ -1,10 +1,11 @@
 //! One round of a program over all nodes.
 
-ghost use Rattle.std.specs.Prelude.{◌≡◌, ◌≢◌, ◌<◌, ◌^◌, ◌+◌, length, map, All, IfOk, EachIndex, MatchBool, get_or};
+ghost use Rattle.std.specs.Prelude.{◌≡◌, ◌≢◌, ◌<◌, ◌^◌, ◌+◌, length, map, All, IfOk, IsTrue, EachIndex, MatchBool, get_or};
 ghost use Rattle.vertex_lang.specs.Leaves.{IsChecked};
 ghost use Rattle.vertex_lang.specs.Expressions.{start_of};
 ghost use Rattle.vertex_lang.specs.Arcs.{IsArc};
 ghost use Rattle.vertex_lang.specs.Rounds.{nodes_of, next};
+ghost use Rattle.vertex_lang.specs.Alike.{IgnoresEdge};
 ghost use Rattle.vertex_lang.specs.Mail.{no_mail, next_from, HasDegrees, TellsChange};
 
 use crate::arc::Arc;
@@ -39,7 +40,9 @@ pub(crate) fn advance<U: Updater>(
     graph: &Graph,
     arcs: &[Arc],
     degrees: &[u64],
+    alike: bool,
     starts: &[Val],
+    sent: &mut [Val],
     mail: &mut [Mail],
     values: &mut [Val],
     updater: &mut U,
@@ -49,14 +52,16 @@ pub(crate) fn advance<U: Updater>(
     requires few { length arcs.now < 2 ^ 32 }
     requires degrees { HasDegrees arcs.now degrees.now }
     requires degrees_size { length degrees.now ≡ length graph.now.ids }
+    requires alike { IsTrue alike → IgnoresEdge program.now.send }
     requires starts { starts.now ≡ map (start_of program.now graph.now) (nodes_of graph.now) }
+    requires sent_size { length sent.old ≡ length graph.now.ids }
     requires mail_size { length mail.old ≡ length graph.now.ids }
     requires values_size { length values.old ≡ length graph.now.ids }
     ensures values { values.new ≡ next U.answer program.now graph.now arcs.now values.old }
     ensures changed { TellsChange result values.new values.old }
     ensures calls { U.calls updater.new ≡ U.calls updater.old + length graph.now.ids }
 {
-    deliver(program, graph, arcs, degrees, values, mail);
+    deliver(program, graph, arcs, degrees, alike, values, sent, mail);
     update_all(program, graph, starts, mail, values, updater)
 }
 
@@ -84,7 +89,8 @@ fn update_all<U: Updater>(
         let got = mail[place];
         let old = values[place];
         let id = graph.id(NodeNo(node));
-        let new = updater.update(program, id, starts[place], old, got.gathered, got.count);
+        let gathered = got.gathered(program.gather);
+        let new = updater.update(program, id, starts[place], old, gathered, got.count);
         values[place] = new;
         changed = changed || differ(new, old);
     }

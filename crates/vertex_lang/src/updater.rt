@@ -9,7 +9,7 @@ ghost use Rattle.vertex_lang.specs.Expressions.{Answer, updated};
 
 use crate::evaluate::evaluate;
 use crate::program::Program;
-use crate::words::Words;
+use crate::words::{Properties, Words};
 use graph_model::Val;
 use std::sync::ledger::Ledger;
 use surge_outside::{Counted, Steps};
@@ -39,6 +39,7 @@ pub fn eval<L: Ledger>(
         gathered,
         count,
         outdeg: 0,
+        properties: Properties::Nobody,
     };
     evaluate(&program.update, &words)
 }

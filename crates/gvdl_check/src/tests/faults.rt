@@ -348,22 +348,6 @@ fn what_is_not_built_is_told_before_its_own_faults(rt: HostRuntime) -> Result<()
             "NotBuilt 2",
         ),
         (
-            "load graph G nodes 'n' edges 'e'; program hops { along out; start z; send value; gather min; update value; }",
-            "NotBuilt 2",
-        ),
-        (
-            "load graph G nodes 'n' edges 'e'; run dist(1) on D within 0 rounds;",
-            "NotBuilt 2",
-        ),
-        (
-            "load graph G nodes 'n' edges 'e'; run wcc(1) on D within 0 rounds;",
-            "NotBuilt 2",
-        ),
-        (
-            "load graph G nodes 'n' edges 'e'; run pagerank(1) on D within 0 rounds;",
-            "NotBuilt 2",
-        ),
-        (
             "load graph G nodes 'n' edges 'e'; run nope on D within 0 rounds order greedy;",
             "NotBuilt 2",
         ),
@@ -378,6 +362,14 @@ fn what_is_not_built_is_told_before_its_own_faults(rt: HostRuntime) -> Result<()
         (
             "load graph G nodes 'n' edges 'e'; run nope on D for 0 rounds keep as G;",
             "NotBuilt 2",
+        ),
+        (
+            "load graph G nodes 'n' edges 'e'; program p { along out; start gathered; send 0; gather min; update 0; } show order X;",
+            "UnknownName 2",
+        ),
+        (
+            "load graph G nodes 'n' edges 'e'; program p { along out; start id; send 0; gather min; update 0; } run p(1) on X within 0 rounds split auto;",
+            "NotBuilt 3",
         ),
         (
             "load graph G nodes 'n' edges 'e'; create view G on G edges where true; show order X;",

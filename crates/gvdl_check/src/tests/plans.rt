@@ -1,6 +1,6 @@
 //! Scripts without a fault, and their plans.
 
-use crate::tests::told::told;
+use crate::tests::told::{called, told};
 use std::test::Fail;
 
 #[test]
@@ -44,9 +44,39 @@ fn views_have_the_predicates_of_all_views_below(rt: HostRuntime) -> Result<(), F
             "load graph G nodes 'n' edges 'e'; create view collection C on G [a: true]; run hops(1) on C for 1 round; run hops(1) on C within 3 rounds; run hops(1) on C for 1000000 rounds;",
             "C { a:(true) } hops/1 on 0 for 1; hops/1 on 0 within 3; hops/1 on 0 for 1000000; / make 0 1 / run 0 / run 1 / run 2 ",
         ),
+        (
+            "load graph G nodes 'n' edges 'e'; program p(a) { along out; start a; send value; gather sum; update gathered; } create view collection C on G [a: true]; run p(2) on C within 3 rounds; run wcc on C for 1 round; run dist(1, y) on C for 1 round; run pagerank on C for 5 rounds;",
+            "C { a:(true) } p/1 on 0 within 3; wcc/0 on 0 for 1; dist/2 on 0 for 1; pagerank/0 on 0 for 5; / - / make 0 1 / run 0 / run 1 / run 2 / run 3 ",
+        ),
     ] {
         let told = told(alloc, script)?;
         assert_eq!(rt; told.as_str(), plan);
+    }
+    Ok(())
+}
+
+#[test]
+fn a_call_fills_the_numbers_in(rt: HostRuntime) -> Result<(), Fail> {
+    let alloc = rt.alloc();
+    for (call, programs) in [
+        (
+            "p(-3, 9223372036854775807)",
+            "in else(if(id=-3;node.#1>=0;9223372036854775807,none);node.#1;-3;) product(minus(edge.#1) +2-outdeg) max max(min(gathered,-3),if(value is none;count>-3;sum(start -1),9223372036854775807)); ",
+        ),
+        (
+            "q",
+            "both 1 sum(value +edge.#0-9223372036854775807) count count; ",
+        ),
+        (
+            "dist(-1, w)",
+            "out if(id=-1;0,none) sum(value +edge.#1) min min(start,gathered); ",
+        ),
+    ] {
+        let script = format!(in alloc;
+            "load graph G nodes 'n' edges 'e'; program p(a, b) {{ along in; start (if id = a and node.rank >= 0 then b else none) else node.rank else a; send -edge.w * 2 / outdeg; gather max; update max(min(gathered, a), if value is none and count > a then start - 1 else b); }} program q {{ along both; start 1; send value + edge.y - 9223372036854775807; gather count; update count; }} create view collection C on G [a: true]; run {call} on C within 1 round;"
+        )?;
+        let called = called(alloc, script.as_str())?;
+        assert_eq!(rt; called.as_str(), programs);
     }
     Ok(())
 }

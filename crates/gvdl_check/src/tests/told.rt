@@ -1,5 +1,6 @@
 //! What the check says of a script, as a text.
 
+use crate::tests::program_text::program_text;
 use crate::{CheckFault, CollectionPlan, Plan, RunPlan, Step, ViewPlan, check};
 use edge_predicates::{Cmp, Place, Pred};
 use graph_loader::load;
@@ -177,20 +178,38 @@ fn fault_text(alloc: Global, fault: CheckFault) -> Result<String, AllocError> {
     }
 }
 
-fn answer_text(alloc: Global, answer: &Result<Plan, CheckFault>) -> Result<String, AllocError> {
-    match answer {
-        Ok(plan) => plan_text(alloc, plan),
-        Err(fault) => fault_text(alloc, *fault),
+// What the check answers to a script on the small graph.
+fn answer(alloc: Global, script: &str) -> Result<Result<Plan, CheckFault>, Fail> {
+    let graph = load(alloc, NODES, EDGES)?;
+    if script.len() > 100_000 {
+        return Ok(Err(CheckFault::NoMemory));
+    }
+    let script = parse(alloc, script.as_bytes())?;
+    Ok(check(alloc, &script, &graph))
+}
+
+fn called_text(alloc: Global, plan: &Plan) -> Result<String, AllocError> {
+    let mut text = String::new(alloc);
+    for run in plan.runs.as_slice() {
+        let one = program_text(alloc, &run.program)?;
+        text.push_str(one.as_str())?;
+        text.push_str("; ")?;
+    }
+    Ok(text)
+}
+
+/// The programs that the runs of a script call, as a text, or the script's first fault.
+pub(crate) fn called(alloc: Global, script: &str) -> Result<String, Fail> {
+    match answer(alloc, script)? {
+        Ok(plan) => Ok(called_text(alloc, &plan)?),
+        Err(fault) => Ok(fault_text(alloc, fault)?),
     }
 }
 
 /// The plan of a script as a text, or its first fault.
 pub(crate) fn told(alloc: Global, script: &str) -> Result<String, Fail> {
-    let graph = load(alloc, NODES, EDGES)?;
-    if script.len() > 100_000 {
-        return Ok(format!(in alloc; "too long")?);
+    match answer(alloc, script)? {
+        Ok(plan) => Ok(plan_text(alloc, &plan)?),
+        Err(fault) => Ok(fault_text(alloc, fault)?),
     }
-    let script = parse(alloc, script.as_bytes())?;
-    let answer = check(alloc, &script, &graph);
-    Ok(answer_text(alloc, &answer)?)
 }

@@ -115,3 +115,78 @@ fn the_script_that_is_run_prints_its_tables(rt: HostRuntime) -> Result<(), Fail>
     assert!(rt; prints(&rt, &whole(SCRIPT, NODES, EDGES), tables.as_str())?);
     Ok(())
 }
+
+const ALL: &str =
+    "load graph G nodes 'n4.csv' edges 'e1.csv';\ncreate view collection A on G [all: true];\n";
+
+#[test]
+fn each_built_in_program_prints_its_table(rt: HostRuntime) -> Result<(), Fail> {
+    for (run, table) in [
+        (
+            "run dist(1, duration) on A within 10 rounds;",
+            "view A.all dist(1, duration) settled 3\n1,0\n2,7\n3,19\n4,20\nend\n",
+        ),
+        (
+            "run wcc on A within 10 rounds;",
+            "view A.all wcc settled 2\n1,1\n2,1\n3,1\n4,1\nend\n",
+        ),
+        (
+            "run pagerank on A for 2 rounds;",
+            "view A.all pagerank after 2\n1,150000\n2,213750\n3,702500\n4,1361250\nend\n",
+        ),
+    ] {
+        let script = format!(in rt.alloc(); "{ALL}{run}")?;
+        assert!(rt;
+            prints(&rt, &whole(script.as_str(), NODES, EDGES), table)?,
+            "at {run}"
+        );
+    }
+    Ok(())
+}
+
+#[test]
+fn each_written_program_prints_its_table(rt: HostRuntime) -> Result<(), Fail> {
+    for (program, run, table) in [
+        (
+            "program minutes(least) {\n    along both;\n    start 0;\n    send if edge.duration >= least then edge.duration else none;\n    gather sum;\n    update gathered;\n}\n",
+            "run minutes(10) on A for 1 round;",
+            "view A.all minutes(10) after 1\n1,34\n2,12\n3,46\n4,0\nend\n",
+        ),
+        (
+            "program halves { along out; start if id = 1 then none else id * -7; send value; gather max; update (gathered else start) / 2; }\n",
+            "run halves on A for 1 round;",
+            "view A.all halves after 1\n1,-\n2,-7\n3,-7\n4,-10\nend\n",
+        ),
+    ] {
+        let script = format!(in rt.alloc(); "{ALL}{program}{run}")?;
+        assert!(rt;
+            prints(&rt, &whole(script.as_str(), NODES, EDGES), table)?,
+            "at {run}"
+        );
+    }
+    Ok(())
+}
+
+#[test]
+fn each_expression_has_its_value(rt: HostRuntime) -> Result<(), Fail> {
+    for (expression, value) in [
+        ("7 / 2 * 2", "6"),
+        ("-7 / 2", "-3"),
+        ("9223372036854775807 + 1 - 1", "9223372036854775806"),
+        ("-9223372036854775807 * 2", "-9223372036854775807"),
+        ("id * 10 + 2", "12"),
+        ("7 / (id - 1)", "-"),
+        ("1 - none else 5", "5"),
+        ("min(none, 4) - max(2, 3)", "1"),
+        ("if none != 1 then 1 else 2", "2"),
+        ("if -none is none and id < 2 then 3 else 4", "3"),
+    ] {
+        let script = format!(in rt.alloc();
+            "{ALL}program p {{ along out; start {expression}; send 0; gather min; update start; }}\nrun p on A for 1 round;"
+        )?;
+        let table = format!(in rt.alloc(); "view A.all p after 1\n1,{value}\nend\n")?;
+        let files = whole(script.as_str(), "id\n1\n", "src,dst\n");
+        assert!(rt; prints(&rt, &files, table.as_str())?, "at {expression}");
+    }
+    Ok(())
+}

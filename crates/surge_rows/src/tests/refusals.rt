@@ -135,8 +135,18 @@ fn what_is_compared_is_of_one_kind(rt: HostRuntime) -> Result<(), Fail> {
 
 #[test]
 fn a_call_has_the_arguments_of_its_program(rt: HostRuntime) -> Result<(), Fail> {
-    for call in ["hops", "hops()", "hops(y)", "hops(1, 2)"] {
-        let statements = format!(in rt.alloc(); "{VIEWS}run {call} on C within 5 rounds;")?;
+    for call in [
+        "hops",
+        "hops()",
+        "hops(y)",
+        "hops(1, 2)",
+        "dist(1)",
+        "dist(1, 2)",
+        "dist(y, 1)",
+        "wcc(1)",
+        "pagerank(y)",
+    ] {
+        let statements = format!(in rt.alloc(); "{VIEWS}run {call} on C within 1 round;")?;
         let is_so = is_refused(
             &rt,
             statements.as_str(),
@@ -144,6 +154,26 @@ fn a_call_has_the_arguments_of_its_program(rt: HostRuntime) -> Result<(), Fail> 
             "surge: script: statement 3: WrongArguments\n",
         )?;
         assert!(rt; is_so, "at {call}");
+    }
+    Ok(())
+}
+
+#[test]
+fn each_part_of_a_program_has_its_own_words(rt: HostRuntime) -> Result<(), Fail> {
+    for program in [
+        "program q { along out; start 0; send gathered; gather min; update value; }",
+        "program q { along out; start value; send 1; gather min; update value; }",
+        "program q { along out; start 0; send node.y; gather min; update value; }",
+        "program q(a) { along out; start 0; send 1; gather min; update b; }",
+    ] {
+        let statements = format!(in rt.alloc(); "{VIEWS}{program}")?;
+        let is_so = is_refused(
+            &rt,
+            statements.as_str(),
+            ScriptFault::UnknownName(3),
+            "surge: script: statement 3: UnknownName\n",
+        )?;
+        assert!(rt; is_so, "at {program}");
     }
     Ok(())
 }
@@ -191,13 +221,9 @@ fn answer(rt: &HostRuntime, statements: &str) -> Result<Status, Fail> {
 #[test]
 fn statements_that_are_not_built_are_told_by_their_number(rt: HostRuntime) -> Result<(), Fail> {
     for statement in [
-        "program p { along out; start 0; send value; gather min; update value; }",
         "append to C [d: y = 3];",
         "show order C;",
         "show work K;",
-        "run dist(1, y) on C within 10 rounds;",
-        "run wcc on C within 10 rounds;",
-        "run pagerank on C within 10 rounds;",
         "run hops(1) on C within 10 rounds order greedy;",
         "run hops(1) on C within 10 rounds order declared;",
         "run hops(1) on C within 10 rounds split none;",

@@ -1,6 +1,6 @@
 //! Views: on the graph, on one another, by windows, and by what their predicates say.
 
-use super::{EDGES, NODES, prints, whole};
+use super::{CALLS, EDGES, NODES, PHONES, prints, whole};
 use std::test::Fail;
 
 #[test]
@@ -48,12 +48,6 @@ fn a_comparison_with_an_absent_cell_is_false(rt: HostRuntime) -> Result<(), Fail
     );
     Ok(())
 }
-
-const PHONES: &str =
-    "id,city:str,vip:bool\r\n10,Los Angeles,true\r\n20,\"San Jose, CA\",false\r\n30,Reno,\r\n40,Los Angeles,True\r\n";
-
-const CALLS: &str =
-    "src,dst,duration:int,year:int\r\n10,20,7,2010\r\n20,30,12,2015\r\n10,40,34,2019\r\n40,10,1,2019\r\n";
 
 #[test]
 fn a_predicate_reads_the_edge_and_both_its_ends(rt: HostRuntime) -> Result<(), Fail> {

@@ -1,10 +1,10 @@
 -- One item more.
 use Rattle.std.proofs.Common.{◌∙◌, drop}
 use Rattle.std.proofs.lemmas.Result.{err_from_is_err_and}
-use Rattle.gvdl_check.specs.Judging.{in_turn}
+use Rattle.gvdl_programs.specs.Judging.{in_turn}
 use Rattle.gvdl_check.specs.Views.{item_added, views_of}
-use Rattle.gvdl_check.proofs.Judged.{refused_as}
-use Rattle.gvdl_check.proofs.Turns.{turn_on, turn_stops, turn_done}
+use Rattle.gvdl_programs.specs.JudgingLaws.{refused_as}
+use Rattle.gvdl_programs.specs.Turns.{turn_on, turn_stops, turn_done}
 use Rattle.gvdl_check.proofs.item.views_of.Goals as goal
 
 pub returns-in_err-add_item : goal.returns-in_err-add_item

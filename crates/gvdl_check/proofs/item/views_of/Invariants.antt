@@ -1,5 +1,5 @@
 use Rattle.std.proofs.Common.{◌≡◌, drop}
-use Rattle.gvdl_check.specs.Judging.{in_turn}
+use Rattle.gvdl_programs.specs.Judging.{in_turn}
 use Rattle.gvdl_check.specs.Views.{item_added, views_of}
 use Rattle.gvdl_check.proofs.item.views_of.Given as goal
 

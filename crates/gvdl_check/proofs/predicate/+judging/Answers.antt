@@ -4,10 +4,10 @@ use Rattle.std.proofs.lemmas.Result.{err_from_is_err_and}
 use Rattle.gvdl_tree.specs.declared.predicate.PredTree.{PredTree}
 use Rattle.edge_predicates.specs.declared.pred.Pred.{Pred}
 use Rattle.edge_predicates.specs.declared.pred.Pred.TheVariants as pred
-use Rattle.gvdl_check.specs.Judging.{Judged, each, Tells}
+use Rattle.gvdl_programs.specs.Judging.{Judged, each, Tells}
 use Rattle.gvdl_check.specs.Predicates.{placed, predicate}
-use Rattle.gvdl_check.proofs.Judged.{gives, refuses}
-use Rattle.gvdl_check.proofs.Turns.{each_on, each_done}
+use Rattle.gvdl_programs.specs.JudgingLaws.{gives, refuses}
+use Rattle.gvdl_programs.specs.Turns.{each_on, each_done}
 use Rattle.gvdl_check.proofs.PredicateCases.{predicate-or, predicate-and, predicate-not, predicate-constant, predicate-compare, predicate-missing}
 use Rattle.gvdl_check.proofs.predicate.+judging.Goals as goal
 

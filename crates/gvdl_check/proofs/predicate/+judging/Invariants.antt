@@ -1,7 +1,7 @@
 use Rattle.std.proofs.Common.{◌≡◌, map, drop}
-use Rattle.gvdl_check.specs.Judging.{each}
+use Rattle.gvdl_programs.specs.Judging.{each}
 use Rattle.gvdl_check.specs.Predicates.{predicate}
-use Rattle.gvdl_check.proofs.Turns.{behind}
+use Rattle.gvdl_programs.specs.Turns.{behind}
 use Rattle.gvdl_check.proofs.predicate.+judging.Given as goal
 
 abbrev pub invariant-predicates-loop-tree : goal.invariant-predicates-loop-tree

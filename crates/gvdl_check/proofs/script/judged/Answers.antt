@@ -4,6 +4,7 @@ use Rattle.gvdl_tree.specs.declared.script.Statement.{Statement}
 use Rattle.gvdl_check.specs.Plans.{statement_judged, plan_from}
 use Rattle.gvdl_check.proofs.SizeFacts.{few_statements}
 use Rattle.gvdl_check.proofs.Growth.{statement_grows}
+use Rattle.gvdl_check.proofs.PlanFacts.{statement_fits}
 use Rattle.gvdl_check.proofs.PlanSteps.{next_from}
 use Rattle.gvdl_check.proofs.script.judged.Goals as goal
 
@@ -33,4 +34,5 @@ loop-statement-preserved c =
       number = omega (arith, inv.number);
       collections = omega (arith, grown.collections, inv.collections);
       runs = omega (arith, grown.runs, inv.runs);
+      fits = statement_fits g k inv.fits next s e;
     }

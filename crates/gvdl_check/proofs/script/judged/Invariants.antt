@@ -1,5 +1,6 @@
 use Rattle.std.proofs.Common.{◌≡◌, ◌+◌, ◌≤◌, drop, length}
 use Rattle.gvdl_check.specs.Plans.{plan, plan_from}
+use Rattle.gvdl_check.proofs.PlanFacts.{KnownFits}
 use Rattle.gvdl_check.proofs.script.judged.Given as goal
 
 abbrev pub invariant-loop-statement : goal.invariant-loop-statement
@@ -8,4 +9,5 @@ invariant-loop-statement l = record {
   number : l.number ≡ l.statement-index + 1;
   collections : length l.known.collections ≤ l.statement-index;
   runs : length l.known.runs ≤ l.statement-index;
+  fits : KnownFits l.graph l.known;
 }

@@ -2,10 +2,10 @@
 use Rattle.std.proofs.Common.{◌∙◌, ◌-◌, ◌<◌, ◌≤◌, arith}
 use Rattle.std.specs.List.{range_with_len}
 use Rattle.std.proofs.lemmas.Result.{err_from_is_err_and}
-use Rattle.gvdl_check.specs.Judging.{in_turn}
+use Rattle.gvdl_programs.specs.Judging.{in_turn}
 use Rattle.gvdl_check.specs.Views.{window_added, window_count}
-use Rattle.gvdl_check.proofs.Judged.{refused_as}
-use Rattle.gvdl_check.proofs.Turns.{range_on, range_stops, range_done}
+use Rattle.gvdl_programs.specs.JudgingLaws.{refused_as}
+use Rattle.gvdl_programs.specs.Turns.{range_on, range_stops, range_done}
 use Rattle.gvdl_check.proofs.window.slide.Goals as goal
 
 pub returns-in_err-add_window : goal.returns-in_err-add_window

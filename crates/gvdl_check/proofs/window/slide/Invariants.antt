@@ -1,6 +1,6 @@
 use Rattle.std.proofs.Common.{◌≡◌, ◌-◌}
 use Rattle.std.specs.List.{range_with_len}
-use Rattle.gvdl_check.specs.Judging.{in_turn}
+use Rattle.gvdl_programs.specs.Judging.{in_turn}
 use Rattle.gvdl_check.specs.Views.{window_added, window_count}
 use Rattle.gvdl_check.proofs.window.slide.Given as goal
 

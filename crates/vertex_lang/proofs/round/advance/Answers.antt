@@ -7,8 +7,8 @@ use Rattle.vertex_lang.specs.declared.mail.Mail.{Mail}
 use Rattle.vertex_lang.specs.Expressions.{start_of}
 use Rattle.vertex_lang.specs.Arcs.{gathered_of}
 use Rattle.vertex_lang.specs.Rounds.{value_at, next, next_of, received, carried}
-use Rattle.vertex_lang.specs.Mail.{next_from}
-use Rattle.vertex_lang.proofs.Deliveries.{messages_small}
+use Rattle.vertex_lang.specs.Mail.{next_from, gathered_in}
+use Rattle.vertex_lang.proofs.Deliveries.{messages_small, gathered_is}
 use Rattle.vertex_lang.proofs.Updates.{same_over_nodes}
 use Rattle.vertex_lang.proofs.round.advance.Goals as goal
 
@@ -34,5 +34,6 @@ returns-clause-values g c =
     let ms = received p graph arcs old k in
     let within : k < length mail = omega (arith, c.deliver.auto.mail, c.requires.mail_size) in
     let start : value_at starts k ≡ start_of p graph k = ap (λ (vs : List Val). value_at vs k) c.requires.starts ∙ get_or-map-range_with_len (start_of p graph) 0 n k k Nil low (omega arith) in
-    ap (λ (m : Mail). answer p (id_of graph k) (value_at starts k) (value_at old k) m.gathered m.count) (c.deliver.ensures k within)
+    ap (λ (m : Mail). answer p (id_of graph k) (value_at starts k) (value_at old k) (gathered_in p.gather m) m.count) (c.deliver.ensures k within)
+    ∙ ap (λ (v : Val). answer p (id_of graph k) (value_at starts k) (value_at old k) v (length ms)) (gathered_is p.gather ms)
     ∙ ap (λ (v : Val). answer p (id_of graph k) v (value_at old k) (gathered_of p.gather ms) (length ms)) start)

@@ -3,7 +3,7 @@ use Rattle.std.specs.List.{range_with_len}
 use Rattle.graph_model.specs.declared.value.Val.{Val}
 use Rattle.graph_model.specs.GraphData.{id_of}
 use Rattle.vertex_lang.specs.Rounds.{value_at}
-use Rattle.vertex_lang.specs.Mail.{next_from, no_mail}
+use Rattle.vertex_lang.specs.Mail.{next_from, no_mail, gathered_in}
 use Rattle.vertex_lang.proofs.Updates.{update_after_change, update_first, all_updated, change_told}
 use Rattle.vertex_lang.proofs.round.update_all.Goals as goal
 use Rattle.vertex_lang.proofs.round.update_all.Goals.{then-changed, else-changed}
@@ -19,8 +19,9 @@ loop-node-preserved g c =
     let lt : n < length now = omega arith in
     let next : c.update-new.result ≡ f n =
     c.update-new.ensures.answer
-    ∙ ap (λ i. g.U.Updater.answer c.args.program.now i (value_at c.args.starts.now n) (value_at now n) got.gathered got.count) c.id-id.ensures.value
-    ∙ ap (λ (v : Val). g.U.Updater.answer c.args.program.now (id_of c.args.graph.now n) (value_at c.args.starts.now n) v got.gathered got.count) (u.left n (omega arith)) in
+    ∙ ap (λ (v : Val). g.U.Updater.answer c.args.program.now c.id-id.result (value_at c.args.starts.now n) (value_at now n) v got.count) c.gathered-gathered.ensures
+    ∙ ap (λ i. g.U.Updater.answer c.args.program.now i (value_at c.args.starts.now n) (value_at now n) (gathered_in c.args.program.now.gather got) got.count) c.id-id.ensures.value
+    ∙ ap (λ (v : Val). g.U.Updater.answer c.args.program.now (id_of c.args.graph.now n) (value_at c.args.starts.now n) v (gathered_in c.args.program.now.gather got) got.count) (u.left n (omega arith)) in
     record {
       updated = elim c.if-changed.branch [
         | then-changed w ↦ update_after_change f old now n c.update-new.result lt next c.loop-node.changed c.if-changed.changed u w.if-changed.true w.changed-is

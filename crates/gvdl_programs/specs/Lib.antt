@@ -1,0 +1,12 @@
+pub mod Judging
+pub mod JudgingLaws
+pub mod Turns
+pub mod Columns
+pub mod Expressions
+pub mod Filled
+pub mod Programs
+pub mod Calls
+pub mod Fits
+pub mod FitLaws
+pub mod FillLaws
+pub mod ProgramLaws
