@@ -15,7 +15,6 @@ mod join;
 mod kept;
 mod pairing;
 mod products;
-mod sides;
 
 pub use join::Join;
 pub use pairing::Pairing;

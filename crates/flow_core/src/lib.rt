@@ -4,9 +4,10 @@
 //! of a function of that collection, as in differential dataflow (McSherry, Murray, Isaacs and Isard, 2013). This room
 //! stands on the times of `lattice_time` and the batches of `weighted`; joins, reduces and loops stand on it. It offers the
 //! trait [`Operator`], a function on each record ([`Map`]), a test on each record ([`Filter`]), the sum of two collections
-//! ([`Concat`]), and operators one after the other ([`Chain`]) and side by side ([`Fork`]). What an operator means is a
-//! relation to its runs (`specs/Runs`): which steps it took, and what each was fed and made. Its promise: at each time at
-//! or above the seal with nothing due at or below it, what was made sums to the function of the sum of what was fed.
+//! ([`Concat`]), operators one after the other ([`Chain`]) and side by side ([`Fork`]), and the two sides of a batch
+//! ([`split`]). What an operator means is a relation to its runs (`specs/Runs`): which steps it took, and what each was fed
+//! and made. Its promise: at each time at or above the seal with nothing due at or below it, what was made sums to the
+//! function of the sum of what was fed.
 #![tactic(auto)]
 
 mod chain;
@@ -30,7 +31,7 @@ pub use keep::Keep;
 pub use laws::lawful;
 pub use map::Map;
 pub use operator::Operator;
-pub use side::Side;
+pub use side::{Side, split};
 
 #[cfg(test)]
 mod tests;

@@ -37,8 +37,12 @@ fn push_side<A: Record, B: Record>(
     Ok(())
 }
 
-/// The two sides of a batch, by one walk along it.
-pub(crate) fn split<A: Record, B: Record>(
+/// The two sides of a batch, each in its order, by one walk along it.
+///
+/// # Errors
+///
+/// [`NoMemory`] where there was not memory enough for both.
+pub fn split<A: Record, B: Record>(
     alloc: Global,
     batch: &Batch<Side<A, B>>,
 ) -> Result<(Batch<A>, Batch<B>), NoMemory>

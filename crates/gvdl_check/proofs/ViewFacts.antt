@@ -1,11 +1,11 @@
 -- Views of collections fit the graph, and are at most 64.
-use Rattle.std.proofs.Common.{◌≡◌, ◌∙◌, ℕ, ℤ, pos, ◌+◌, ◌*◌, ◌+ℤ◌, ◌<◌, ◌≤◌, true, List, [], ◌∷◌, ◌++◌, length, refl, subst, arith, length-append, Ok}
-use Rattle.std.specs.Prelude.{nat_lt}
+use Rattle.std.proofs.Common.{◌≡◌, ◌∙◌, ℕ, ℤ, pos, ◌+◌, ◌*◌, ◌+ℤ◌, ◌<◌, ◌≤◌, true, false, List, [], ◌∷◌, ◌++◌, length, refl, subst, arith, length-append, Ok}
+use Rattle.std.specs.Prelude.{Bool, ◌&&◌, nat_lt}
 use Rattle.std.specs.List.{range_with_len}
 use Rattle.std.proofs.lemmas.List.Elements.{All-nil, All-push}
 use Rattle.std.proofs.lemmas.Bool.Decides.{nat_tests}
-use Rattle.graph_model.specs.GraphData.{GraphData}
-use Rattle.graph_model.specs.declared.cell.Kind.{Kind}
+use Rattle.graph_model.specs.GraphData.{GraphData, kind_at}
+use Rattle.graph_model.specs.declared.cell.Column.{Column}
 use Rattle.gvdl_tree.specs.declared.predicate.PredTree.{PredTree}
 use Rattle.gvdl_tree.specs.declared.script.Item.{Item}
 use Rattle.gvdl_tree.specs.declared.script.ItemBody.{ItemBody}
@@ -14,16 +14,17 @@ use Rattle.edge_predicates.specs.declared.pred.Cmp.TheVariants as checked
 use Rattle.edge_predicates.specs.declared.pred.Place.TheVariants as place
 use Rattle.edge_predicates.specs.declared.pred.Pred.{Pred}
 use Rattle.edge_predicates.specs.declared.pred.Pred.TheVariants as pred
-use Rattle.vertex_lang.specs.Leaves.{is_int}
+use Rattle.vertex_lang.specs.Leaves.{is_int, is_int_column}
 use Rattle.gvdl_check.specs.declared.plan.ViewPlan.{ViewPlan}
 use Rattle.gvdl_programs.specs.declared.refusal.Refusal.TheVariants as refusal
 use Rattle.gvdl_programs.specs.Judging.{Judged, ◌>>=◌, expect, in_turn}
-use Rattle.gvdl_programs.specs.Columns.{column_of}
+use Rattle.gvdl_programs.specs.Columns.{int_column}
 use Rattle.gvdl_check.specs.Predicates.{predicate}
 use Rattle.gvdl_check.specs.Views.{view_on, new_view, room, rule_added, is_window, window_count, window_name, window_rule, window_added, windows_added, body_added, item_added, views_of}
 use Rattle.gvdl_check.specs.Fits.{place_fits, fits, RuleFits, ViewsFit}
 use Rattle.gvdl_programs.specs.JudgingLaws.{through, same_value, expected}
-use Rattle.gvdl_check.proofs.RuleFacts.{column_found, fits-and, fits-compare, two_fit, predicate_fits}
+use Rattle.gvdl_programs.specs.FitLaws.{int_found}
+use Rattle.gvdl_check.proofs.RuleFacts.{fits-and, fits-compare, two_fit, predicate_fits}
 
 -- what each step keeps, all steps keep
 pub turns_keep : {A B : Type 0} (f : B → A → Judged B) (P : B → Type 0) → ((b c : B) (a : A) → P b → f b a ≡ Ok c → P c)
@@ -35,6 +36,12 @@ turns_keep f P keeps b c (x ∷ xs) h e =
 
 has_room : (views : List ViewPlan) (u : Unit {0}) → room views ≡ Ok u → length views < 64
 has_room views u e = let t = expected (nat_lt (length views) 64) refusal.TooManyViews u e in grind (arith, nat_tests)
+
+column_within : (columns : List Column) (column : ℕ) → is_int_column columns column ≡ true → nat_lt column (length columns) ≡ true
+column_within columns column = first_of (nat_lt column (length columns)) (is_int (kind_at columns column)) where
+  first_of : (a b : Bool) → (a && b) ≡ true → a ≡ true
+  first_of true b e = refl
+  first_of false b e = e
 
 -- what one view more keeps, all items keep
 module _ (g : GraphData) (base : List Pred) (P : List ViewPlan → Type 0)
@@ -67,12 +74,11 @@ module _ (g : GraphData) (base : List Pred) (P : List ViewPlan → Type 0)
   windows_keep : (views next : List ViewPlan) (name property : List ℕ) (first last : ℤ) (width step : ℕ) → P views → windows_added g base views name property first last width step ≡ Ok next → P next
   windows_keep views next name property first last width step h e =
       let places = range_with_len 0 (window_count first last step) in
-      let all : ℕ × Kind → Unit {0} → Judged (List ViewPlan) = λ column u. in_turn (window_added base name column.0 first width step) views places in
+      let all : ℕ → Unit {0} → Judged (List ViewPlan) = λ column u. in_turn (window_added base name column first width step) views places in
       let sound : Judged (Unit {0}) = expect (is_window first last width step) refusal.WrongArguments in
-      let s = through (column_of g.edge_columns property) (λ column. expect (is_int column.1) refusal.WrongType >>= λ _. sound >>= all column) next e in
-      let t = through (expect (is_int s.value.1) refusal.WrongType) (λ _. sound >>= all s.value) next s.rest in
-      let u = through sound (all s.value) next t.rest in
-      turns_keep (window_added base name s.value.0 first width step) P (window_keeps name s.value.0 first width step (column_found g.edge_columns property s.value s.first)) views next places h u.rest
+      let s = through (int_column g.edge_columns property) (λ column. sound >>= all column) next e in
+      let t = through sound (all s.value) next s.rest in
+      turns_keep (window_added base name s.value first width step) P (window_keeps name s.value first width step (column_within g.edge_columns s.value (int_found g.edge_columns property s.value s.first))) views next places h t.rest
 
   body_keeps : (views next : List ViewPlan) (name : List ℕ) (b : ItemBody) → P views → body_added g base views name b ≡ Ok next → P next
   body_keeps views next name (body.Rule tree) h e = rule_keeps views next name tree h e

@@ -11,11 +11,10 @@ use Rattle.edge_predicates.specs.declared.pred.Cmp.TheVariants as checked
 use Rattle.edge_predicates.specs.declared.pred.Place.TheVariants as place
 use Rattle.edge_predicates.specs.declared.pred.Pred.{Pred}
 use Rattle.edge_predicates.specs.declared.pred.Pred.TheVariants as pred
-use Rattle.vertex_lang.specs.Leaves.{is_int}
 use Rattle.gvdl_check.specs.declared.plan.ViewPlan.{ViewPlan}
 use Rattle.gvdl_programs.specs.declared.refusal.Refusal.TheVariants as refusal
 use Rattle.gvdl_programs.specs.Judging.{Judged, ◌>>=◌, ◌>>◌, expect, in_turn}
-use Rattle.gvdl_programs.specs.Columns.{column_of}
+use Rattle.gvdl_programs.specs.Columns.{int_column}
 use Rattle.gvdl_check.specs.Predicates.{predicate}
 
 -- a view of a collection on a base with these predicates
@@ -76,10 +75,9 @@ window_added base name column first width step views i = do
 
 abbrev pub windows_added : GraphData → List Pred → List ViewPlan → List ℕ → List ℕ → (first last : ℤ) (width step : ℕ) → Judged (List ViewPlan)
 windows_added g base views name property first last width step = do
-  column ← column_of g.edge_columns property
-  expect (is_int column.1) refusal.WrongType
+  column ← int_column g.edge_columns property
   expect (is_window first last width step) refusal.WrongArguments
-  in_turn (window_added base name column.0 first width step) views (range_with_len 0 (window_count first last step))
+  in_turn (window_added base name column first width step) views (range_with_len 0 (window_count first last step))
 
 -- ---- items
 

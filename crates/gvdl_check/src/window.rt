@@ -3,14 +3,13 @@
 ghost use Rattle.std.specs.Prelude.{◌≡◌, ◌<◌, ◌-◌, ◌^◌, ◌≤ℤ◌, ◌+ℤ◌, ◌*◌, pos, int_le, IsTrue, IfOk};
 ghost use Rattle.std.specs.List.{range_with_len};
 ghost use Rattle.gvdl_programs.specs.Judging.{Tells, Leaves, in_turn};
-ghost use Rattle.vertex_lang.specs.Leaves.{is_int};
 ghost use Rattle.gvdl_check.specs.Views.{greatest, is_window, window_count, window_name, bounded, window_added, windows_added};
 
 use crate::item::{add_view, expect_new_view, expect_room};
 use crate::plan::ViewPlan;
 use edge_predicates::{Cmp, Place, Pred};
-use graph_model::{Graph, Kind};
-use gvdl_programs::{Refusal, Stop, column_of};
+use graph_model::Graph;
+use gvdl_programs::{Refusal, Stop, int_column};
 use std::alloc::Global;
 use surge_outside::{List, NoMemory, Text};
 
@@ -21,16 +20,6 @@ pub(crate) struct Window {
     pub(crate) last: i64,
     pub(crate) width: u64,
     pub(crate) step: u64,
-}
-
-fn is_int(kind: Kind) -> bool
-    ensures { result ≡ is_int kind }
-{
-    match kind {
-        Kind::Int => true,
-        Kind::Str => false,
-        Kind::Bool => false,
-    }
 }
 
 // Whether the upper end of the last window is a number.
@@ -147,10 +136,7 @@ pub(crate) fn add_windows(
 ) -> Result<(), Stop>
     ensures told { Leaves (windows_added graph.now base.now views.old name.now property.now window.first window.last window.width window.step) result views.new }
 {
-    let (column, kind) = column_of(graph.edge_columns().as_slice(), property)?;
-    if !is_int(kind) {
-        return Err(Stop::Refused(Refusal::WrongType));
-    }
+    let column = int_column(graph.edge_columns().as_slice(), property)?;
     if !is_window(window) {
         return Err(Stop::Refused(Refusal::WrongArguments));
     }

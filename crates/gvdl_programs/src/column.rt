@@ -39,8 +39,12 @@ fn is_int(kind: Kind) -> bool
     }
 }
 
-/// The place of the column with this name, which holds whole numbers.
-pub(crate) fn int_column(columns: &[Column], name: &str) -> Result<u32, Stop>
+/// The place, from 0, of the column with this name, which holds whole numbers.
+///
+/// # Errors
+///
+/// [`Refusal::UnknownProperty`] where no column has it, and [`Refusal::WrongType`] where its cells are of another kind.
+pub fn int_column(columns: &[Column], name: &str) -> Result<u32, Stop>
     requires { length columns.now ≤ 16 }
     ensures { Tells (int_column columns.now name.now) result }
 {
