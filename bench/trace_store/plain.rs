@@ -20,64 +20,105 @@ fn batch(seed: u64) -> Vec<((u32, u32), u64)> {
     list
 }
 
+/// A thousand records of keys below 1,000,000.
+fn small(seed: u64) -> Vec<((u32, u32), u64)> {
+    let mut list = Vec::with_capacity(1_000);
+    let mut state = seed;
+    for _ in 0..1_000 {
+        state = state.wrapping_mul(6364136223846793005).wrapping_add(1442695040888963407);
+        list.push((((state >> 40) as u32 % 1_000_000, (state >> 54) as u32), 1));
+    }
+    list.sort_unstable_by_key(|entry| entry.0);
+    consolidate(&mut list);
+    list
+}
+
 fn leq(s: &Time, t: &Time) -> bool {
     s.0 <= t.0 && s.1 <= t.1
 }
 
-fn insert(trace: &mut Vec<Entry>, batch: &[((u32, u32), u64)], t: Time) {
-    let right: Vec<Entry> = batch.iter().map(|(record, weight)| ((*record, t), *weight)).collect();
-    let left = std::mem::take(trace);
+/// The sum of two sorted lists.
+fn merge(left: &[Entry], right: &[Entry]) -> Vec<Entry> {
+    let mut merged = Vec::with_capacity(left.len() + right.len());
     let (mut i, mut j) = (0, 0);
     while i < left.len() && j < right.len() {
         let (x, y) = (left[i], right[j]);
         match x.0.cmp(&y.0) {
             std::cmp::Ordering::Less => {
-                trace.push(x);
+                merged.push(x);
                 i += 1;
             }
             std::cmp::Ordering::Greater => {
-                trace.push(y);
+                merged.push(y);
                 j += 1;
             }
             std::cmp::Ordering::Equal => {
                 let sum = x.1.wrapping_add(y.1);
                 if sum != 0 {
-                    trace.push((x.0, sum));
+                    merged.push((x.0, sum));
                 }
                 i += 1;
                 j += 1;
             }
         }
     }
-    trace.extend_from_slice(&left[i..]);
-    trace.extend_from_slice(&right[j..]);
+    merged.extend_from_slice(&left[i..]);
+    merged.extend_from_slice(&right[j..]);
+    merged
 }
 
-fn accumulate(trace: &[Entry], key: u32, t: Time, into: &mut Vec<(u32, u64)>) {
-    into.clear();
-    let start = trace.partition_point(|entry| entry.0.0.0 < key);
-    for entry in &trace[start..] {
-        if entry.0.0.0 != key {
+/// Layers, each at least twice as long as the next newer one.
+fn insert(trace: &mut Vec<Vec<Entry>>, batch: &[((u32, u32), u64)], t: Time) {
+    let mut newest: Vec<Entry> = batch.iter().map(|(record, weight)| ((*record, t), *weight)).collect();
+    let mut sum = newest.len();
+    while let Some(last) = trace.last() {
+        if sum <= last.len() / 2 {
             break;
         }
-        if leq(&entry.0.1, &t) {
-            into.push((entry.0.0.1, entry.1));
+        sum += last.len();
+        newest = merge(last, &newest);
+        trace.pop();
+    }
+    if !newest.is_empty() {
+        trace.push(newest);
+    }
+}
+
+fn accumulate(trace: &[Vec<Entry>], key: u32, t: Time, into: &mut Vec<(u32, u64)>) {
+    into.clear();
+    for layer in trace {
+        let start = layer.partition_point(|entry| entry.0.0.0 < key);
+        for entry in &layer[start..] {
+            if entry.0.0.0 != key {
+                break;
+            }
+            if leq(&entry.0.1, &t) {
+                into.push((entry.0.0.1, entry.1));
+            }
         }
     }
+    into.sort_unstable_by_key(|entry| entry.0);
     consolidate(into);
 }
 
-fn seal(trace: &mut Vec<Entry>, f: Time) {
-    let mut sealed: Vec<Entry> = trace
-        .iter()
-        .map(|((record, time), weight)| ((*record, (time.0.max(f.0), time.1.max(f.1))), *weight))
-        .collect();
-    sealed.sort_unstable_by_key(|entry| entry.0);
-    consolidate(&mut sealed);
-    *trace = sealed;
+fn seal(trace: &mut Vec<Vec<Entry>>, f: Time) {
+    let mut merged = Vec::new();
+    while let Some(last) = trace.pop() {
+        merged = merge(&last, &merged);
+    }
+    for entry in &mut merged {
+        entry.0.1 = (entry.0.1.0.max(f.0), entry.0.1.1.max(f.1));
+    }
+    for group in merged.chunk_by_mut(|a, b| a.0.0 == b.0.0) {
+        if group.len() > 1 {
+            group.sort_unstable_by_key(|entry| entry.0.1);
+        }
+    }
+    consolidate(&mut merged);
+    trace.push(merged);
 }
 
-fn read(trace: &[Entry], step: u32) -> u64 {
+fn read(trace: &[Vec<Entry>], step: u32) -> u64 {
     let mut values = Vec::new();
     let mut count = 0;
     let mut key = 0;
@@ -106,9 +147,28 @@ fn main() {
     seal(&mut trace, (3, 1));
     let sealed = start.elapsed().as_micros();
     let after = read(&trace, 1);
-    println!("values {rising} {scattered} {after}");
+    let start = Instant::now();
+    for seed in 0..1_000u32 {
+        insert(&mut trace, &small(u64::from(seed)), (5, seed));
+    }
+    let small = start.elapsed().as_micros();
+    let start = Instant::now();
+    let left: Vec<Entry> = trace[0].iter().copied().step_by(2).collect();
+    let right: Vec<Entry> = trace[0].iter().copied().skip(1).step_by(2).collect();
+    let halves = start.elapsed().as_micros();
+    let start = Instant::now();
+    let whole = merge(&left, &right);
+    let merged = start.elapsed().as_micros();
+    assert!(whole.len() == trace[0].len() && halves < u128::MAX);
+    let start = Instant::now();
+    seal(&mut trace, (6, 1));
+    let again = start.elapsed().as_micros();
+    println!("values {rising} {scattered} {after} {}", trace[0].len());
     println!("insert {inserted}");
     println!("accumulate {in_order}");
     println!("accumulate_anywhere {anywhere}");
     println!("seal {sealed}");
+    println!("thousand_inserts {small}");
+    println!("seal_after_inserts {again}");
+    eprintln!("merge_of_halves {merged}");
 }

@@ -67,10 +67,10 @@ impl<K: Record, A: Record, B: Record, F: Pairing<K, A, B>, T: Time, U: Counted> 
         t: T,
         delta: &Batch<Side<(K, A), (K, B)>>,
     ) -> Result<Batch<F::Output>, NoMemory>
-        requires run { (run : Run T (Side (K × A) (K × B)) F.Output) × StandsByProducts T.leq T.lub (joined_sides K.cmp (F.gives self.old.pairing)) self.old.sealed self.old.left self.old.right self.old.kept run }
+        requires run { (run : Run T (Side (K × A) (K × B)) F.Output) × StandsByProducts T.leq T.lub (joined_sides K.cmp (F.gives self.old.pairing)) self.old.sealed self.old.left.items self.old.right.items self.old.kept run }
         requires due { Every (λ d. IsTrue (T.leq d t) → d ≡ t) (due_times self.old.kept) }
         requires seal { IsTrue (T.leq self.old.sealed t) }
-        ensures runs { IfOk result (λ made. (run : Run T (Side (K × A) (K × B)) F.Output) → StandsByProducts T.leq T.lub (joined_sides K.cmp (F.gives self.old.pairing)) self.old.sealed self.old.left self.old.right self.old.kept run → NoneAbove T.leq t (times_of run.steps) → StandsByProducts T.leq T.lub (joined_sides K.cmp (F.gives self.old.pairing)) self.old.sealed self.new.left self.new.right self.new.kept (continued run t delta.now made)) }
+        ensures runs { IfOk result (λ made. (run : Run T (Side (K × A) (K × B)) F.Output) → StandsByProducts T.leq T.lub (joined_sides K.cmp (F.gives self.old.pairing)) self.old.sealed self.old.left.items self.old.right.items self.old.kept run → NoneAbove T.leq t (times_of run.steps) → StandsByProducts T.leq T.lub (joined_sides K.cmp (F.gives self.old.pairing)) self.old.sealed self.new.left.items self.new.right.items self.new.kept (continued run t delta.now made)) }
         ensures due { OnOk result (Every (λ d. Member d (due_times self.old.kept) ⊎ IsTrue (T.leq t d)) (due_times self.new.kept)) }
         ensures seal { self.new.sealed ≡ self.old.sealed }
         ensures pairing { self.new.pairing ≡ self.old.pairing }
@@ -78,11 +78,18 @@ impl<K: Record, A: Record, B: Record, F: Pairing<K, A, B>, T: Time, U: Counted> 
         let (left, right) = split(self.alloc, delta)?;
         self.right.insert(&right, t)?;
         let mut products = Vec::new(self.alloc);
-        push_all(&mut products, &self.pairing, t, &left, &self.right)?;
+        push_all(
+            self.alloc,
+            &mut products,
+            &self.pairing,
+            t,
+            &left,
+            &self.right,
+        )?;
         let turned = Turned {
             pairing: &self.pairing,
         };
-        push_all(&mut products, &turned, t, &right, &self.left)?;
+        push_all(self.alloc, &mut products, &turned, t, &right, &self.left)?;
         self.left.insert(&left, t)?;
         self.kept.exchange(List::from_vec(products), t)
     }
@@ -91,7 +98,7 @@ impl<K: Record, A: Record, B: Record, F: Pairing<K, A, B>, T: Time, U: Counted> 
     fn seal_sides(&mut self, f: T) -> Result<(), NoMemory>
         requires seal { IsTrue (T.leq self.old.sealed f) }
         requires due { due_times self.old.kept ≡ [] }
-        ensures runs { OnOk result ((run : Run T (Side (K × A) (K × B)) F.Output) → StandsByProducts T.leq T.lub (joined_sides K.cmp (F.gives self.old.pairing)) self.old.sealed self.old.left self.old.right self.old.kept run → StandsByProducts T.leq T.lub (joined_sides K.cmp (F.gives self.old.pairing)) f self.new.left self.new.right self.old.kept (sealed run 0)) }
+        ensures runs { OnOk result ((run : Run T (Side (K × A) (K × B)) F.Output) → StandsByProducts T.leq T.lub (joined_sides K.cmp (F.gives self.old.pairing)) self.old.sealed self.old.left.items self.old.right.items self.old.kept run → StandsByProducts T.leq T.lub (joined_sides K.cmp (F.gives self.old.pairing)) f self.new.left.items self.new.right.items self.old.kept (sealed run 0)) }
         ensures seal { OnOk result (self.new.sealed ≡ f) }
         ensures kept { self.new.kept ≡ self.old.kept }
         ensures pairing { self.new.pairing ≡ self.old.pairing }
@@ -109,7 +116,7 @@ impl<K: Record, A: Record, B: Record, F: Pairing<K, A, B>, T: Time, U: Counted> 
 
     type Output = F::Output;
 
-    ghost stands = { λ s run. StandsByProducts T.leq T.lub (joined_sides K.cmp (F.gives s.pairing)) s.sealed s.left s.right s.kept run };
+    ghost stands = { λ s run. StandsByProducts T.leq T.lub (joined_sides K.cmp (F.gives s.pairing)) s.sealed s.left.items s.right.items s.kept run };
 
     ghost due = { λ s. due_times s.kept };
 
@@ -121,13 +128,13 @@ impl<K: Record, A: Record, B: Record, F: Pairing<K, A, B>, T: Time, U: Counted> 
 
     ghost spent = { λ s. s.spent };
 
-    ghost answers = { λ s run h. join_answers T.lattice K.cmp (F.gives s.pairing) s.sealed s.left s.right s.kept run h };
+    ghost answers = { λ s run h. join_answers T.lattice K.cmp (F.gives s.pairing) s.sealed s.left.items s.right.items s.kept run h };
 
     ghost respects = { λ s. joined_respects K.cmp (F.gives s.pairing) };
 
-    ghost idle = { λ s run t h _ _ below. join_idle T.lattice K.cmp (F.gives s.pairing) s.sealed s.left s.right s.kept run t h below };
+    ghost idle = { λ s run t h _ _ below. join_idle T.lattice K.cmp (F.gives s.pairing) s.sealed s.left.items s.right.items s.kept run t h below };
 
-    ghost paid = { λ s run h. join_paid T.lattice K.cmp (F.gives s.pairing) s.sealed s.left s.right s.kept run h };
+    ghost paid = { λ s run h. join_paid T.lattice K.cmp (F.gives s.pairing) s.sealed s.left.items s.right.items s.kept run h };
 
     fn step(
         &mut self,

@@ -7,7 +7,8 @@ ghost use Rattle.diff_join.specs.StepLaws.{products_of};
 
 use crate::pairing::Pairing;
 use lattice_time::Time;
-use surge_outside::{NoMemory, Record};
+use std::alloc::Global;
+use surge_outside::{List, NoMemory, Record};
 use trace_store::Trace;
 use weighted::{Batch, Weight};
 
@@ -47,17 +48,19 @@ fn push_products<K: Record, V: Record, W: Record, T: Time, F: Pairing<K, V, W>>(
 
 /// Adds what a pairing gives for the differences of a batch at `t` with the entries of a trace.
 pub(crate) fn push_all<K: Record, V: Record, W: Record, T: Time, F: Pairing<K, V, W>>(
+    alloc: Global,
     products: &mut Vec<((T, F::Output), Weight)>,
     pairing: &F,
     t: T,
     batch: &Batch<(K, V)>,
     trace: &Trace<K, W, T>,
 ) -> Result<(), NoMemory>
-    ensures { OnOk result (products.new.items ≡ products.old.items ++ products_of T.lub (pairs K.cmp (F.gives pairing.now)) t batch.now trace.now) }
+    ensures { OnOk result (products.new.items ≡ products.old.items ++ products_of T.lub (pairs K.cmp (F.gives pairing.now)) t batch.now trace.now.items) }
 {
+    let mut entries = List::new(alloc);
     for difference in batch.as_slice() {
-        let entries = trace.entries_of(difference.0.0);
-        push_products(products, pairing, t, *difference, entries)?;
+        trace.entries_of(difference.0.0, &mut entries)?;
+        push_products(products, pairing, t, *difference, entries.as_slice())?;
     }
     Ok(())
 }

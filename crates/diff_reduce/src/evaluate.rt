@@ -105,8 +105,8 @@ fn read_marks<K: Record, V: Record, T: Time>(
     key: K,
     marks: &mut List<T>,
 ) -> Result<(), NoMemory>
-    ensures each { OnOk result ((x : T) → IsKept T.cmp K.cmp V.cmp input.now points.now key x → Contains marks.new x) }
-    ensures only { OnOk result ((x : T) → Contains marks.new x → IsKept T.cmp K.cmp V.cmp input.now points.now key x) }
+    ensures each { OnOk result ((x : T) → IsKept T.cmp K.cmp V.cmp input.now.items points.now key x → Contains marks.new x) }
+    ensures only { OnOk result ((x : T) → Contains marks.new x → IsKept T.cmp K.cmp V.cmp input.now.items points.now key x) }
 {
     input.times_of(key, marks)?;
     points.push_seconds(&key, marks)
@@ -122,7 +122,7 @@ impl<K: Record, V: Record, O: Record, T: Time> Work<K, V, O, T> {
         t: T,
     ) -> Result<(), NoMemory>
         ensures made { self.new.made.items ≡ self.old.made.items }
-        ensures later { OnOk result ((ks : List K) → AreLater T.lub (IsKept T.cmp K.cmp V.cmp input.now points.now) t ks self.old.later.items → AreLater T.lub (IsKept T.cmp K.cmp V.cmp input.now points.now) t (ks ++ key ∷ []) self.new.later.items) }
+        ensures later { OnOk result ((ks : List K) → AreLater T.lub (IsKept T.cmp K.cmp V.cmp input.now.items points.now) t ks self.old.later.items → AreLater T.lub (IsKept T.cmp K.cmp V.cmp input.now.items points.now) t (ks ++ key ∷ []) self.new.later.items) }
     {
         read_marks(input, points, key, &mut self.marks)?;
         push_later(&mut self.later, key, t, self.marks.as_slice())
@@ -140,7 +140,7 @@ impl<K: Record, V: Record, O: Record, T: Time> Work<K, V, O, T> {
     ) -> Result<(), NoMemory>
     where
         G: KeyLogic<U, Key = K, Value = V, Output = O>,
-        ensures made { OnOk result (self.new.made.items ≡ self.old.made.items ++ mapped (λ o. (key, o)) (correction T.leq K.cmp V.cmp O.cmp (G.gives logic.now) t input.now output.now key)) }
+        ensures made { OnOk result (self.new.made.items ≡ self.old.made.items ++ mapped (λ o. (key, o)) (correction T.leq K.cmp V.cmp O.cmp (G.gives logic.now) t input.now.items output.now.items key)) }
         ensures later { self.new.later.items ≡ self.old.later.items }
         ensures calls { U.calls updater.old ≤ U.calls updater.new }
         ensures cost { U.calls updater.new ≤ U.calls updater.old + 1 }
@@ -168,8 +168,8 @@ pub(crate) fn evaluate<K: Record, V: Record, O: Record, T: Time, U: Counted, G>(
 ) -> Result<(Vec<((K, O), Weight)>, Vec<(T, K)>), NoMemory>
 where
     G: KeyLogic<U, Key = K, Value = V, Output = O>,
-    ensures made { IfOk result (λ found. found.0.items ≡ over (correction T.leq K.cmp V.cmp O.cmp (G.gives logic.now) t input.now output.now) keys.now) }
-    ensures later { IfOk result (λ found. AreLater T.lub (IsKept T.cmp K.cmp V.cmp input.now points.now) t keys.now found.1.items) }
+    ensures made { IfOk result (λ found. found.0.items ≡ over (correction T.leq K.cmp V.cmp O.cmp (G.gives logic.now) t input.now.items output.now.items) keys.now) }
+    ensures later { IfOk result (λ found. AreLater T.lub (IsKept T.cmp K.cmp V.cmp input.now.items points.now) t keys.now found.1.items) }
     ensures count { OnOk result (count.new ≡ count.old + length keys.now) }
     ensures counted { count.old ≤ count.new }
     ensures calls { U.calls updater.old ≤ U.calls updater.new }

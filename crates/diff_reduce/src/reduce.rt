@@ -89,7 +89,7 @@ impl<G: KeyLogic<U>, T: Time, U: Counted> Reduce<G, T, U> {
         delta: &Batch<(G::Key, G::Value)>,
         updater: &mut U,
     ) -> Result<Batch<(G::Key, G::Output)>, NoMemory>
-        ensures step { IfOk result (λ made. (ks : List G.Key) × Stepped T.leq T.lub T.cmp G.Key.cmp G.Value.cmp G.Output.cmp (G.gives self.old.logic) (record { input = self.old.input; output = self.old.output; points = self.old.points; due = self.old.due; seal = self.old.sealed; charge = self.old.count }) (record { input = self.new.input; output = self.new.output; points = self.new.points; due = self.new.due; seal = self.new.sealed; charge = self.new.count }) t delta.now made ks) }
+        ensures step { IfOk result (λ made. (ks : List G.Key) × Stepped T.leq T.lub T.cmp G.Key.cmp G.Value.cmp G.Output.cmp (G.gives self.old.logic) (record { input = self.old.input.items; output = self.old.output.items; points = self.old.points; due = self.old.due; seal = self.old.sealed; charge = self.old.count }) (record { input = self.new.input.items; output = self.new.output.items; points = self.new.points; due = self.new.due; seal = self.new.sealed; charge = self.new.count }) t delta.now made ks) }
         ensures batch { OnOk result (IsBatch (in_turn G.Key.cmp G.Value.cmp) delta.now) }
         ensures logic { self.new.logic ≡ self.old.logic }
         ensures counted { self.old.count ≤ self.new.count }
@@ -123,7 +123,7 @@ impl<G: KeyLogic<U>, T: Time, U: Counted> Reduce<G, T, U> {
 
     /// A seal, where a refusal leaves the operator to be marked as spent.
     fn close(&mut self, f: T) -> Result<(), NoMemory>
-        ensures seal { OnOk result (Sealed T.lub (record { input = self.old.input; output = self.old.output; points = self.old.points; due = self.old.due; seal = self.old.sealed; charge = self.old.count }) (record { input = self.new.input; output = self.new.output; points = self.new.points; due = self.new.due; seal = self.new.sealed; charge = self.new.count }) f) }
+        ensures seal { OnOk result (Sealed T.lub (record { input = self.old.input.items; output = self.old.output.items; points = self.old.points; due = self.old.due; seal = self.old.sealed; charge = self.old.count }) (record { input = self.new.input.items; output = self.new.output.items; points = self.new.points; due = self.new.due; seal = self.new.sealed; charge = self.new.count }) f) }
         ensures logic { self.new.logic ≡ self.old.logic }
         ensures count { self.new.count ≡ self.old.count }
     {
@@ -141,7 +141,7 @@ impl<G: KeyLogic<U>, T: Time, U: Counted> Operator<T, U> for Reduce<G, T, U> {
 
     type Output = (G::Key, G::Output);
 
-    ghost stands = { λ s run. Stands T.leq T.lub T.cmp G.Key.cmp G.Value.cmp (G.gives s.logic) (record { input = s.input; output = s.output; points = s.points; due = s.due; seal = s.sealed; charge = s.count }) run };
+    ghost stands = { λ s run. Stands T.leq T.lub T.cmp G.Key.cmp G.Value.cmp (G.gives s.logic) (record { input = s.input.items; output = s.output.items; points = s.points; due = s.due; seal = s.sealed; charge = s.count }) run };
 
     ghost due = { λ s. due_times s.due };
 
@@ -153,13 +153,13 @@ impl<G: KeyLogic<U>, T: Time, U: Counted> Operator<T, U> for Reduce<G, T, U> {
 
     ghost spent = { λ s. s.spent };
 
-    ghost answers = { λ s run h. stands_answers T.leq T.lub T.lattice T.cmp T.same (tied_itself T.total) G.Key.cmp G.Key.same (tied_itself G.Key.total) G.Value.cmp G.Value.total G.Value.same (G.gives s.logic) (G.nothing s.logic) (record { input = s.input; output = s.output; points = s.points; due = s.due; seal = s.sealed; charge = s.count }) run h };
+    ghost answers = { λ s run h. stands_answers T.leq T.lub T.lattice T.cmp T.same (tied_itself T.total) G.Key.cmp G.Key.same (tied_itself G.Key.total) G.Value.cmp G.Value.total G.Value.same (G.gives s.logic) (G.nothing s.logic) (record { input = s.input.items; output = s.output.items; points = s.points; due = s.due; seal = s.sealed; charge = s.count }) run h };
 
     ghost respects = { λ s. reduce_respects G.Key.cmp G.Key.same (tied_itself G.Key.total) G.Value.cmp G.Value.total G.Value.same (G.gives s.logic) (G.nothing s.logic) };
 
-    ghost idle = { λ s run t h above over below. idle_stands T.leq T.lub T.lattice T.cmp T.same (tied_itself T.total) G.Key.cmp G.Key.same (tied_itself G.Key.total) G.Value.cmp G.Value.total G.Value.same G.Output.cmp G.Output.total G.Output.same (G.gives s.logic) (G.nothing s.logic) (record { input = s.input; output = s.output; points = s.points; due = s.due; seal = s.sealed; charge = s.count }) run t h above over below };
+    ghost idle = { λ s run t h above over below. idle_stands T.leq T.lub T.lattice T.cmp T.same (tied_itself T.total) G.Key.cmp G.Key.same (tied_itself G.Key.total) G.Value.cmp G.Value.total G.Value.same G.Output.cmp G.Output.total G.Output.same (G.gives s.logic) (G.nothing s.logic) (record { input = s.input.items; output = s.output.items; points = s.points; due = s.due; seal = s.sealed; charge = s.count }) run t h above over below };
 
-    ghost paid = { λ s run h. stands_paid T.leq T.lub T.lattice T.cmp T.same (tied_itself T.total) G.Key.cmp G.Key.same (tied_itself G.Key.total) G.Value.cmp G.Value.total G.Value.same (G.gives s.logic) (G.nothing s.logic) (record { input = s.input; output = s.output; points = s.points; due = s.due; seal = s.sealed; charge = s.count }) run h };
+    ghost paid = { λ s run h. stands_paid T.leq T.lub T.lattice T.cmp T.same (tied_itself T.total) G.Key.cmp G.Key.same (tied_itself G.Key.total) G.Value.cmp G.Value.total G.Value.same (G.gives s.logic) (G.nothing s.logic) (record { input = s.input.items; output = s.output.items; points = s.points; due = s.due; seal = s.sealed; charge = s.count }) run h };
 
     fn step(
         &mut self,

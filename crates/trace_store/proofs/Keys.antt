@@ -1,5 +1,5 @@
 -- In a list in the order of keys, values and times the entries of a key stand side by side.
-use Rattle.std.proofs.Common.{◌≡◌, ◌∙◌, ℕ, zero, suc, ◌<◌, ◌≤◌, Bool, true, false, List, [], ◌∷◌, length, take, drop, get_or, Ordering, refl, ap, sym, arith}
+use Rattle.std.proofs.Common.{◌≡◌, ◌∙◌, ℕ, zero, suc, ◌+◌, ◌-◌, ◌<◌, ◌≤◌, Some, slice_get, Bool, true, false, List, [], ◌∷◌, length, take, drop, get_or, Ordering, refl, ap, sym, arith}
 use Rattle.std.specs.Prelude.{if◌then◌else◌}
 use Rattle.std.specs.Cmp.{IsTotalOrder}
 use Rattle.std.specs.List.{AllWithin, IsFirstMatchOrLen}
@@ -9,6 +9,7 @@ use Rattle.std.specs.declared.cmp.Ordering.TheVariants.{Less, Equal, Greater}
 use Rattle.weighted.specs.Normal.{Below, Rising}
 use Rattle.weighted.specs.SumLaws.{filtered}
 use Rattle.trace_store.specs.Traces.{trace_cmp}
+use Rattle.trace_store.proofs.Places.{is_within, read_at}
 
 pub not_greater_first : (r s : Ordering) → ordering_then r s ≡ Less → is_gt r ≡ false
 not_greater_first Less s h = refl
@@ -101,10 +102,28 @@ module _ {K V T : Type 0} (kcmp : K → K → Ordering) (vcmp : V → V → Orde
       let rest : take n es ≡ filtered (keyed kcmp key) es = run es n r.1 (λ k d _ low. from (suc k) d (omega arith) (omega arith)) (omega arith) ((λ k d _ low. first.0 (suc k) d (omega arith) (omega arith)), (λ low d. first.1 (omega arith) d)) in
       ap (λ v. e ∷ v) rest ∙ sym (ap (λ c. if c then e ∷ filtered (keyed kcmp key) es else filtered (keyed kcmp key) es) is)
 
-  pub cut : (es : List (((K × V) × T) × ℕ)) (s n : ℕ) → Rising (trace_cmp kcmp vcmp tcmp) es → s ≤ length es → AllWithin (λ e. precedes kcmp key e ≡ true) es 0 s → AllWithin (λ e. precedes kcmp key e ≡ false) es s (length es) → n ≤ length (drop s es) → IsFirstMatchOrLen (differs kcmp key) (drop s es) n → take n (drop s es) ≡ filtered (keyed kcmp key) es
-  cut es zero n r low before from fits first = run es n r from fits first
-  cut [] (suc s) n r low before from fits first = absurd (omega arith)
-  cut (e ∷ es) (suc s) n r low before from fits first =
+  pub cut : (es : List (((K × V) × T) × ℕ)) (s t : ℕ) → Rising (trace_cmp kcmp vcmp tcmp) es → s ≤ t → t ≤ length es → AllWithin (λ e. precedes kcmp key e ≡ true) es 0 s → AllWithin (λ e. precedes kcmp key e ≡ false) es s (length es) → AllWithin (λ e. differs kcmp key e ≡ false) es s t → (t < length es → (d : ((K × V) × T) × ℕ) → differs kcmp key (get_or es t d) ≡ true) → take (t - s) (drop s es) ≡ filtered (keyed kcmp key) es
+  cut es zero t r le fits before from same end = let n : t - 0 ≡ t = omega arith in ap (λ m. take m es) n ∙ run es t r from fits ((λ k d a b. same k d a b), end)
+  cut [] (suc s) t r le fits before from same end = absurd (omega arith)
+  cut (e ∷ es) (suc s) zero r le fits before from same end = absurd (omega arith)
+  cut (e ∷ es) (suc s) (suc t) r le fits before from same end =
       let not : keyed kcmp key e.0 ≡ false = less_not_equal (kcmp e.0.0.0 key) (before 0 e (omega arith) (omega arith)) in
-      cut es s n r.1 (omega arith) (λ k d _ up. before (suc k) d (omega arith) (omega arith)) (λ k d le up. from (suc k) d (omega arith) (omega arith)) fits first
+      let n : suc t - suc s ≡ t - s = omega arith in
+      ap (λ m. take m (drop s es)) n
+      ∙ cut es s t r.1 (omega arith) (omega arith) (λ k d _ up. before (suc k) d (omega arith) (omega arith)) (λ k d le up. from (suc k) d (omega arith) (omega arith)) (λ k d le up. same (suc k) d (omega arith) (omega arith)) (λ low d. end (omega arith) d)
       ∙ sym (ap (λ c. if c then e ∷ filtered (keyed kcmp key) es else filtered (keyed kcmp key) es) not)
+
+  -- ---- halving
+
+  pub all_before : (es : List (((K × V) × T) × ℕ)) (m : ℕ) (e : ((K × V) × T) × ℕ) → Rising (trace_cmp kcmp vcmp tcmp) es → slice_get es m ≡ Some e → is_lt (kcmp e.0.0.0 key) ≡ true → AllWithin (λ e. is_lt (kcmp e.0.0.0 key) ≡ true) es 0 (m + 1)
+  all_before es m e r is h = λ k d _ low. parted es r k m d (omega arith) (is_within es m e is) (ap (precedes kcmp key) (read_at es m e d is) ∙ h)
+
+  from_by : (es : List (((K × V) × T) × ℕ)) (m k : ℕ) (d e : ((K × V) × T) × ℕ) (b : Bool) → precedes kcmp key (get_or es k d) ≡ b → Rising (trace_cmp kcmp vcmp tcmp) es → m ≤ k → k < length es → slice_get es m ≡ Some e → is_lt (kcmp e.0.0.0 key) ≡ false → b ≡ false
+  from_by es m k d e false q r le low is h = refl
+  from_by es m k d e true q r le low is h =
+      let yes : precedes kcmp key e ≡ true = ap (precedes kcmp key) (sym (read_at es m e d is)) ∙ parted es r m k d le low q in
+      let no : true ≡ false = sym yes ∙ h in absurd (cc)
+
+  pub all_from : (es : List (((K × V) × T) × ℕ)) (m : ℕ) (e : ((K × V) × T) × ℕ) → Rising (trace_cmp kcmp vcmp tcmp) es → slice_get es m ≡ Some e → is_lt (kcmp e.0.0.0 key) ≡ false → AllWithin (λ e. is_lt (kcmp e.0.0.0 key) ≡ false) es m (length es)
+  all_from es m e r is h = λ k d le low.
+      let b : precedes kcmp key (get_or es k d) ≡ false = from_by es m k d e (precedes kcmp key (get_or es k d)) refl r le low is h in b

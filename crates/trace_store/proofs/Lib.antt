@@ -1,5 +1,10 @@
+pub mod Places
+pub mod Joined
+pub mod Lengths
+pub mod Groups
 pub mod Keys
 pub mod Values
 pub mod Times
 pub mod Steps
 pub mod Changes
+pub mod Outcomes

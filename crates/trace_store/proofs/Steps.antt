@@ -1,7 +1,8 @@
 -- One more entry of a list.
-use Rattle.std.proofs.Common.{◌≡◌, ◌∙◌, ℕ, ◌+◌, ◌<◌, Bool, true, false, List, [], ◌∷◌, ◌++◌, length, take, get_or, map, ap, sym}
+use Rattle.std.proofs.Common.{◌≡◌, ◌∙◌, ℕ, ◌+◌, ◌-◌, ◌<◌, ◌≤◌, Bool, true, false, List, [], ◌∷◌, ◌++◌, length, take, drop, get_or, map, Some, ap, sym, slice_get}
 use Rattle.std.specs.Prelude.{if◌then◌else◌}
 use Rattle.std.proofs.lemmas.List.{append-nil, take_more, map-append}
+use Rattle.trace_store.proofs.Places.{between}
 use Rattle.weighted.specs.WordLaws.{mapped, mapped-append}
 use Rattle.weighted.specs.SumLaws.{filtered, filtered-append}
 
@@ -14,12 +15,17 @@ map_step f xs i x low is = ap (map f) (one_more xs i x low is) ∙ map-append f 
 pub mapped_step : {A B : Type 0} (f : A → B) (xs : List (A × ℕ)) (i : ℕ) (e : A × ℕ) → i < length xs → e ≡ get_or xs i e → mapped f (take (i + 1) xs) ≡ mapped f (take i xs) ++ (f e.0, e.1) ∷ []
 mapped_step f xs i e low is = ap (mapped f) (one_more xs i e low is) ∙ mapped-append f (take i xs) (e ∷ [])
 
-module _ {A B : Type 0} (f : A → B) (p : A → Bool) (xs : List (A × ℕ)) (i : ℕ) (e : A × ℕ) (low : i < length xs) (is : e ≡ get_or xs i e) where
-  both : mapped f (filtered p (take (i + 1) xs)) ≡ mapped f (filtered p (take i xs)) ++ mapped f (if p e.0 then e ∷ [] else [])
-  both = ap (λ v. mapped f (filtered p v)) (one_more xs i e low is) ∙ ap (mapped f) (filtered-append p (take i xs) (e ∷ [])) ∙ mapped-append f (filtered p (take i xs)) (filtered p (e ∷ []))
+-- ---- of those from one place up to another
 
-  pub taken : p e.0 ≡ true → mapped f (filtered p (take (i + 1) xs)) ≡ mapped f (filtered p (take i xs)) ++ (f e.0, e.1) ∷ []
-  taken h = both ∙ ap (λ b. mapped f (filtered p (take i xs)) ++ mapped f (if b then e ∷ [] else [])) h
+module _ {A B : Type 0} (f : A → B) (p : A → Bool) (xs : List (A × ℕ)) (start i : ℕ) (e : A × ℕ) (le : start ≤ i) (is : slice_get xs i ≡ Some e) where
+  both_between : mapped f (filtered p (take (i + 1 - start) (drop start xs))) ≡ mapped f (filtered p (take (i - start) (drop start xs))) ++ mapped f (if p e.0 then e ∷ [] else [])
+  both_between = ap (λ v. mapped f (filtered p v)) (between xs start i e le is) ∙ ap (mapped f) (filtered-append p (take (i - start) (drop start xs)) (e ∷ [])) ∙ mapped-append f (filtered p (take (i - start) (drop start xs))) (filtered p (e ∷ []))
 
-  pub passed_over : p e.0 ≡ false → mapped f (filtered p (take (i + 1) xs)) ≡ mapped f (filtered p (take i xs))
-  passed_over h = both ∙ ap (λ b. mapped f (filtered p (take i xs)) ++ mapped f (if b then e ∷ [] else [])) h ∙ append-nil (mapped f (filtered p (take i xs)))
+  pub taken_between : p e.0 ≡ true → mapped f (filtered p (take (i + 1 - start) (drop start xs))) ≡ mapped f (filtered p (take (i - start) (drop start xs))) ++ (f e.0, e.1) ∷ []
+  taken_between h = both_between ∙ ap (λ b. mapped f (filtered p (take (i - start) (drop start xs))) ++ mapped f (if b then e ∷ [] else [])) h
+
+  pub passed_between : p e.0 ≡ false → mapped f (filtered p (take (i + 1 - start) (drop start xs))) ≡ mapped f (filtered p (take (i - start) (drop start xs)))
+  passed_between h = both_between ∙ ap (λ b. mapped f (filtered p (take (i - start) (drop start xs))) ++ mapped f (if b then e ∷ [] else [])) h ∙ append-nil (mapped f (filtered p (take (i - start) (drop start xs))))
+
+pub mapped_between : {A B : Type 0} (f : A → B) (xs : List (A × ℕ)) (start i : ℕ) (e : A × ℕ) → start ≤ i → slice_get xs i ≡ Some e → mapped f (take (i + 1 - start) (drop start xs)) ≡ mapped f (take (i - start) (drop start xs)) ++ (f e.0, e.1) ∷ []
+mapped_between f xs start i e le is = ap (mapped f) (between xs start i e le is) ∙ mapped-append f (take (i - start) (drop start xs)) (e ∷ [])

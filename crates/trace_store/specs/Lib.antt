@@ -1,2 +1,4 @@
-pub mod Traces
+pub mod Layers
+pub mod Stored
 pub mod TraceLaws
+pub mod Traces

@@ -196,7 +196,7 @@ fn weights_cancel(rt: HostRuntime) -> Result<(), Fail> {
 }
 
 #[test]
-fn entries_of_a_key_are_lent_in_order(rt: HostRuntime) -> Result<(), Fail> {
+fn entries_of_a_key_come_in_order(rt: HostRuntime) -> Result<(), Fail> {
     let alloc = rt.alloc();
     let trace = fed(alloc, Position(2), Position(5))?;
     let wanted = [
@@ -205,7 +205,46 @@ fn entries_of_a_key_are_lent_in_order(rt: HostRuntime) -> Result<(), Fail> {
         (((1, 7), Position(5)), MINUS_ONE),
         (((1, 8), Position(2)), Weight(2)),
     ];
-    assert_eq!(rt; trace.entries_of(1), wanted.as_slice());
-    assert!(rt; trace.entries_of(3).is_empty());
+    let mut entries = List::new(alloc);
+    entries.push((((9, 9), Position(9)), Weight(9)))?;
+    trace.entries_of(1, &mut entries)?;
+    assert_eq!(rt; entries.as_slice(), wanted.as_slice());
+    trace.entries_of(3, &mut entries)?;
+    assert!(rt; entries.is_empty());
+    Ok(())
+}
+
+#[test]
+fn what_cancels_is_dropped_by_a_seal(rt: HostRuntime) -> Result<(), Fail> {
+    let alloc = rt.alloc();
+    let mut trace = Trace::new(alloc);
+    assert!(rt; trace.entries() == 0 && trace.layers() == 0);
+    trace.insert(&batch(alloc, &[((1, 7), Weight(1))])?, Position(1))?;
+    trace.insert(&batch(alloc, &[((1, 7), MINUS_ONE)])?, Position(2))?;
+    assert!(rt; trace.entries() <= 2);
+    trace.seal(Position(3))?;
+    assert!(rt; trace.entries() == 0 && trace.layers() == 0);
+    assert!(rt; gives(alloc, &trace, 1, Position(3), &[])?);
+    Ok(())
+}
+
+#[test]
+fn layers_are_few(rt: HostRuntime) -> Result<(), Fail> {
+    let alloc = rt.alloc();
+    let mut trace = Trace::new(alloc);
+    for key in 0..100u32 {
+        let one = batch(alloc, &[((key, 1), Weight(1)), ((7, key), Weight(1))])?;
+        trace.insert(&one, Position(key))?;
+    }
+    assert_eq!(rt; trace.entries(), 200);
+    assert!(rt; trace.layers() <= 7);
+    for key in 0..100u32 {
+        if key != 7 {
+            assert!(rt; gives(alloc, &trace, key, Position(99), &[(1, Weight(1))])?);
+        }
+    }
+    trace.seal(Position(50))?;
+    assert_eq!(rt; trace.entries(), 199);
+    assert_eq!(rt; trace.layers(), 1);
     Ok(())
 }

@@ -11,8 +11,8 @@ loop-difference-preserved g c =
     let low : c.loop-difference.difference-index < length c.as_slice-difference-items.result.now = omega arith in
     let f = pairs g.K.Ord.cmp (g.F.Pairing.gives c.args.pairing.now) in
     let e = c.difference-item.result in
-    walk_onto (made_of g.T.Time.lub f c.args.t c.args.trace.now) (made_of-append g.T.Time.lub f c.args.t c.args.trace.now) c.args.products.now.items c.loop-difference.products.items _ c.as_slice-difference-items.result.now c.loop-difference.difference-index e low c.difference-item.is c.loop-difference.invariant
-    (c.in_ok-push_products.ensures ∙ ap (λ v. c.loop-difference.products.items ++ v) (ap (λ v. wrapped (given (at_bound g.T.Time.lub (unkeyed (g.F.Pairing.gives c.args.pairing.now)) c.args.t) (paired e.0 e.1 v))) c.entries_of-entries.ensures ∙ ap wrapped (sym (keyed g.K.Ord.cmp g.met.K.Ord.total g.T.Time.lub (g.F.Pairing.gives c.args.pairing.now) c.args.t e.0 e.1 c.args.trace.now)) ∙ made_of-one g.T.Time.lub f c.args.t c.args.trace.now e))
+    walk_onto (made_of g.T.Time.lub f c.args.t c.args.trace.now.items) (made_of-append g.T.Time.lub f c.args.t c.args.trace.now.items) c.args.products.now.items c.loop-difference.products.items _ c.as_slice-difference-items.result.now c.loop-difference.difference-index e low c.difference-item.is c.loop-difference.invariant
+    (c.in_ok-push_products.ensures ∙ ap (λ v. c.loop-difference.products.items ++ v) (ap (λ v. wrapped (given (at_bound g.T.Time.lub (unkeyed (g.F.Pairing.gives c.args.pairing.now)) c.args.t) (paired e.0 e.1 v))) (c.as_slice.ensures ∙ c.in_ok-entries_of.ensures) ∙ ap wrapped (sym (keyed g.K.Ord.cmp g.met.K.Ord.total g.T.Time.lub (g.F.Pairing.gives c.args.pairing.now) c.args.t e.0 e.1 c.args.trace.now.items)) ∙ made_of-one g.T.Time.lub f c.args.t c.args.trace.now.items e))
 
 pub returns : goal.returns
-returns g c = walked_onto (made_of g.T.Time.lub (pairs g.K.Ord.cmp (g.F.Pairing.gives c.args.pairing.now)) c.args.t c.args.trace.now) c.args.products.now.items c.loop-difference.products.items c.as_slice-difference-items.result.now c.args.batch.now c.loop-difference.difference-index c.loop-difference.invariant (omega arith) c.as_slice-difference-items.ensures.value
+returns g c = walked_onto (made_of g.T.Time.lub (pairs g.K.Ord.cmp (g.F.Pairing.gives c.args.pairing.now)) c.args.t c.args.trace.now.items) c.args.products.now.items c.loop-difference.products.items c.as_slice-difference-items.result.now c.args.batch.now c.loop-difference.difference-index c.loop-difference.invariant (omega arith) c.as_slice-difference-items.ensures.value

@@ -16,5 +16,5 @@ returns-clause-made g c = OnOk-imply c.push_taken.result _ _ (λ is.
     ∙ append_assoc c.args.self.now.made.items _ _
     ∙ ap (λ v. c.args.self.now.made.items ++ v) (sym (mapped-append (λ o. (c.args.key, o)) c.as_slice-2.result.now (negated c.as_slice-3.result.now)))
     ∙ ap (λ v. c.args.self.now.made.items ++ mapped (λ o. (c.args.key, o)) (v ++ negated c.as_slice-3.result.now)) given
-    ∙ ap (λ v. c.args.self.now.made.items ++ mapped (λ o. (c.args.key, o)) (g.G.KeyLogic.gives c.args.logic.now c.args.key (normal g.V.Ord.cmp (values_of g.K.Ord.cmp c.args.key (accumulated g.T.Time.leq c.args.t c.args.input.now))) ++ negated v)) before)
+    ∙ ap (λ v. c.args.self.now.made.items ++ mapped (λ o. (c.args.key, o)) (g.G.KeyLogic.gives c.args.logic.now c.args.key (normal g.V.Ord.cmp (values_of g.K.Ord.cmp c.args.key (accumulated g.T.Time.leq c.args.t c.args.input.now.items))) ++ negated v)) before)
     c.push_taken.ensures

@@ -33,6 +33,6 @@ returns-clause-step g c =
           (c.as_slice-4.ensures.value ∙ (rw c.as_slice-3.ensures.value at c.in_ok-points.ensures))
           c.in_ok-add.ensures.old c.in_ok-add.ensures.more c.in_ok-add.ensures.only
           c.in_ok-remove.ensures.rest
-          (subst (λ v. AreLater g.T.Time.lub (IsKept g.T.Ord.cmp g.G.Key.Ord.cmp g.G.Value.Ord.cmp c.insert.new.self c.args.self.now.points) c.args.t c.in_ok-keys.keys.items v) (sym c.as_slice-5.ensures.value) (rw c.as_slice-2.ensures.value at c.in_ok-entries.ensures.later))
+          (subst (λ v. AreLater g.T.Time.lub (IsKept g.T.Ord.cmp g.G.Key.Ord.cmp g.G.Value.Ord.cmp c.insert.new.self.items c.args.self.now.points) c.args.t c.in_ok-keys.keys.items v) (sym c.as_slice-5.ensures.value) (rw c.as_slice-2.ensures.value at c.in_ok-entries.ensures.later))
           c.in_ok-add-2.ensures.old c.in_ok-add-2.ensures.more c.in_ok-add-2.ensures.only,
     )

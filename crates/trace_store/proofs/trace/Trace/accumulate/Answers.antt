@@ -1,36 +1,30 @@
--- The values that are pushed are those of the key at the time, in their order.
-use Rattle.std.proofs.Common.{◌≡◌, ◌∙◌, ◌++◌, ap, sym, subst}
-use Rattle.std.specs.List.Sorted.{IsSortedByKey}
-use Rattle.weighted.specs.Alike.{Alike-is, Alike-trans}
-use Rattle.weighted.specs.Normal.{Rising, normal}
-use Rattle.weighted.specs.SumLaws.{filtered}
-use Rattle.weighted.specs.WordLaws.{mapped}
-use Rattle.trace_store.specs.Traces.{trace_cmp}
-use Rattle.trace_store.proofs.Keys.{keyed}
-use Rattle.trace_store.proofs.Values.{keyed_values, values_are, values_sorted}
+-- The values of all layers, added up, are those of the normal form.
+use Rattle.std.proofs.Common.{◌≡◌, ◌∙◌, ◌<◌, ◌++◌, length, take, ap, sym, arith}
+use Rattle.std.proofs.lemmas.List.{take_all}
+use Rattle.weighted.specs.Alike.{Alike, Alike-is, Alike-trans}
+use Rattle.weighted.specs.Batches.{joined}
+use Rattle.weighted.specs.Normal.{normal-same}
+use Rattle.trace_store.specs.Stored.{Stored}
+use Rattle.trace_store.specs.Traces.{accumulated, values_of}
+use Rattle.trace_store.specs.TraceLaws.{trace_same, trace_total}
+use Rattle.trace_store.proofs.Values.{keyed_values, keyed_values_more, normal_values}
 use Rattle.trace_store.proofs.trace.Trace.accumulate.Goals as goal
 
-pub from_sorted-requires : goal.from_sorted-requires
-from_sorted-requires g c =
-    let values : c.push_values.new.values ≡ keyed_values g.K.Ord.cmp g.T.Time.leq c.args.key c.args.t c.args.self.now =
+pub loop-layer-preserved : goal.loop-layer-preserved
+loop-layer-preserved g c =
+    let low : c.loop-layer.layer-index < length c.as_slice-layer-items.result.now = omega arith in
     c.in_ok-push_values.ensures
-    ∙ ap (λ v. v ++ mapped (λ r. r.0.1) (filtered (λ r. g.T.Time.leq r.1 c.args.t) c.entries_of-entries.result.now)) c.clear.ensures
-    ∙ ap (λ v. mapped (λ r. r.0.1) (filtered (λ r. g.T.Time.leq r.1 c.args.t) v)) (c.entries_of-entries.ensures ∙ ap (filtered (keyed g.K.Ord.cmp c.args.key)) (c.as_slice.ensures.value ∙ c.self.view_is)) in
-    let rises : Rising (trace_cmp g.K.Ord.cmp g.V.Ord.cmp g.T.Ord.cmp) c.args.self.now = subst (λ es. Rising (trace_cmp g.K.Ord.cmp g.V.Ord.cmp g.T.Ord.cmp) es) c.self.view_is c.self.invariant.rising in
-    subst (λ vs. IsSortedByKey (λ e. e.0) g.V.Ord.cmp vs) (sym values) (values_sorted g.K.Ord.cmp g.V.Ord.cmp g.T.Ord.cmp g.met.K.Ord.total g.met.K.Record.same g.met.V.Ord.total g.T.Time.leq c.args.key c.args.t c.args.self.now rises)
+    ∙ ap (λ v. v ++ keyed_values g.K.Ord.cmp g.T.Time.leq c.args.key c.args.t c.layer-item.result) c.loop-layer.invariant
+    ∙ sym (keyed_values_more g.K.Ord.cmp g.T.Time.leq c.args.key c.args.t c.as_slice-layer-items.result.now c.loop-layer.layer-index c.layer-item.result low c.layer-item.is)
 
 pub returns-clause-value : goal.returns-clause-value
 returns-clause-value g c =
-    let values : c.push_values.new.values ≡ keyed_values g.K.Ord.cmp g.T.Time.leq c.args.key c.args.t c.args.self.now =
-    c.in_ok-push_values.ensures
-    ∙ ap (λ v. v ++ mapped (λ r. r.0.1) (filtered (λ r. g.T.Time.leq r.1 c.args.t) c.entries_of-entries.result.now)) c.clear.ensures
-    ∙ ap (λ v. mapped (λ r. r.0.1) (filtered (λ r. g.T.Time.leq r.1 c.args.t) v)) (c.entries_of-entries.ensures ∙ ap (filtered (keyed g.K.Ord.cmp c.args.key)) (c.as_slice.ensures.value ∙ c.self.view_is)) in
-    c.into_entries.ensures.value ∙ c.from_sorted.ensures.value ∙ ap (normal g.V.Ord.cmp) (values ∙ sym (values_are g.K.Ord.cmp g.T.Time.leq c.args.key c.args.t c.args.self.now))
+    let all : c.loop-layer.values ≡ keyed_values g.K.Ord.cmp g.T.Time.leq c.args.key c.args.t (joined c.self.inside.layers.items) = c.loop-layer.invariant ∙ ap (λ v. keyed_values g.K.Ord.cmp g.T.Time.leq c.args.key c.args.t (joined v)) (take_all c.loop-layer.layer-index c.as_slice-layer-items.result.now (omega arith) ∙ c.as_slice-layer-items.ensures.value) in
+    let alike : Alike c.loop-layer.values (values_of g.K.Ord.cmp c.args.key (accumulated g.T.Time.leq c.args.t c.args.self.now.items)) = Alike-trans (Alike-is all) (normal_values g.K.Ord.cmp g.T.Time.leq c.args.key c.args.t g.V.Ord.cmp g.T.Ord.cmp (trace_total g.met.K.Ord.total g.met.V.Ord.total g.met.T.Ord.total) (trace_same g.met.K.Record.same g.met.V.Record.same g.met.T.Record.same) (joined c.self.inside.layers.items) c.args.self.now.items (ap (λ (v : Stored ((g.row.K.Denot × g.row.V.Denot) × g.row.T.Denot)). v.items) c.self.view_is)) in
+    c.into_entries.ensures.value ∙ c.in_ok-from_entries.ensures.value ∙ normal-same g.V.Ord.cmp g.met.V.Ord.total g.met.V.Record.same c.loop-layer.values _ alike
 
 pub returns-clause-alike : goal.returns-clause-alike
 returns-clause-alike g c =
-    let values : c.push_values.new.values ≡ keyed_values g.K.Ord.cmp g.T.Time.leq c.args.key c.args.t c.args.self.now =
-    c.in_ok-push_values.ensures
-    ∙ ap (λ v. v ++ mapped (λ r. r.0.1) (filtered (λ r. g.T.Time.leq r.1 c.args.t) c.entries_of-entries.result.now)) c.clear.ensures
-    ∙ ap (λ v. mapped (λ r. r.0.1) (filtered (λ r. g.T.Time.leq r.1 c.args.t) v)) (c.entries_of-entries.ensures ∙ ap (filtered (keyed g.K.Ord.cmp c.args.key)) (c.as_slice.ensures.value ∙ c.self.view_is)) in
-    Alike-trans (Alike-is c.into_entries.ensures.value) (Alike-trans c.from_sorted.ensures.alike (Alike-is (values ∙ sym (values_are g.K.Ord.cmp g.T.Time.leq c.args.key c.args.t c.args.self.now))))
+    let all : c.loop-layer.values ≡ keyed_values g.K.Ord.cmp g.T.Time.leq c.args.key c.args.t (joined c.self.inside.layers.items) = c.loop-layer.invariant ∙ ap (λ v. keyed_values g.K.Ord.cmp g.T.Time.leq c.args.key c.args.t (joined v)) (take_all c.loop-layer.layer-index c.as_slice-layer-items.result.now (omega arith) ∙ c.as_slice-layer-items.ensures.value) in
+    let alike : Alike c.loop-layer.values (values_of g.K.Ord.cmp c.args.key (accumulated g.T.Time.leq c.args.t c.args.self.now.items)) = Alike-trans (Alike-is all) (normal_values g.K.Ord.cmp g.T.Time.leq c.args.key c.args.t g.V.Ord.cmp g.T.Ord.cmp (trace_total g.met.K.Ord.total g.met.V.Ord.total g.met.T.Ord.total) (trace_same g.met.K.Record.same g.met.V.Record.same g.met.T.Record.same) (joined c.self.inside.layers.items) c.args.self.now.items (ap (λ (v : Stored ((g.row.K.Denot × g.row.V.Denot) × g.row.T.Denot)). v.items) c.self.view_is)) in
+    Alike-trans (Alike-is c.into_entries.ensures.value) (Alike-trans c.in_ok-from_entries.ensures.alike alike)

@@ -1,0 +1,4 @@
+pub mod Filled
+pub mod Memory
+pub mod Pieces
+pub mod Sharing
