@@ -167,6 +167,16 @@ pub record IsGraphData (g : GraphData) : Type 0 where
   pub edge_names : AreDistinct (names_of g.edge_columns)
   pub edge_cells : FitColumns (length g.ends) g.edge_columns g.edge_cells
 
+-- each cell of a node is what a cell of its column may hold, so none is the number -(2^63)
+pub record HasNodeCells (g : GraphData) : Type 0 where
+  pub each : (n column : ℕ) → n < length g.ids → column < length g.node_columns
+      → IsCellOf (kind_at g.node_columns column) (node_cell_of g n column)
+
+-- and each cell of an edge
+pub record HasEdgeCells (g : GraphData) : Type 0 where
+  pub each : (e column : ℕ) → e < length g.ends → column < length g.edge_columns
+      → IsCellOf (kind_at g.edge_columns column) (edge_cell_of g e column)
+
 -- ---- more edges
 
 -- the cells of a column, and then those; both are of one kind

@@ -1,7 +1,7 @@
 //! The property graph.
 
 ghost use Rattle.std.specs.Prelude.{◌≡◌, ◌<◌, ◌≤◌, ◌+◌, ◌^◌, length, position, nat_eq, nat_lt, count_by, option_map, slice_get, All, MatchOption, IfOk, OnOk, OnErr};
-ghost use Rattle.graph_model.specs.GraphData.{graph_data, ends_of, id_of, node, cell_of, node_cell_of, edge_cell_of, kind_at, names_of, nodes_by_id, with_edges, AddsEdges, AreDistinct, EndsAmong, FitColumns, HasId, IsCellOf, IsGraphData, KeepsEdges, NoneHasId};
+ghost use Rattle.graph_model.specs.GraphData.{graph_data, ends_of, id_of, node, cell_of, node_cell_of, edge_cell_of, kind_at, names_of, nodes_by_id, with_edges, AddsEdges, AreDistinct, EndsAmong, FitColumns, HasEdgeCells, HasId, HasNodeCells, IsCellOf, IsGraphData, KeepsEdges, NoneHasId};
 
 use crate::by_id::order_by_id;
 use crate::cell::{CellRef, Cells, Column, cell_at};
@@ -150,20 +150,24 @@ impl Graph {
         self.ends.as_slice()[e.0 as usize].1
     }
 
-    /// The columns of the nodes, in the order of the file's header: at most 16, with distinct names.
+    /// The columns of the nodes, in the order of the file's header: at most 16, with distinct names. Each cell is of its
+    /// column's kind, and none is the number -(2^63).
     pub fn node_columns(&self) -> &List<Column>
         ensures value { result.now ≡ self.now.node_columns }
         ensures few { length self.now.node_columns ≤ 16 }
         ensures names { AreDistinct (names_of self.now.node_columns) }
+        ensures cells { HasNodeCells self.now }
     {
         &self.node_columns
     }
 
-    /// The columns of the edges, in the order of the file's header: at most 16, with distinct names.
+    /// The columns of the edges, in the order of the file's header: at most 16, with distinct names. Each cell is of its
+    /// column's kind, and none is the number -(2^63).
     pub fn edge_columns(&self) -> &List<Column>
         ensures value { result.now ≡ self.now.edge_columns }
         ensures few { length self.now.edge_columns ≤ 16 }
         ensures names { AreDistinct (names_of self.now.edge_columns) }
+        ensures cells { HasEdgeCells self.now }
     {
         &self.edge_columns
     }

@@ -18,6 +18,8 @@ fault_at n refusal.WrongType = fault.Fault (script.WrongType n)
 fault_at n refusal.WrongArguments = fault.Fault (script.WrongArguments n)
 fault_at n refusal.TooManyViews = fault.Fault (script.TooManyViews n)
 fault_at n refusal.BadRounds = fault.Fault (script.BadRounds n)
+fault_at n refusal.TooManyKept = fault.Fault (script.TooManyKept n)
+fault_at n refusal.BadSplit = fault.Fault (script.BadSplit n)
 
 -- what is judged of the statement with this number
 abbrev pub at : {A : Type 0} → ℕ → Judged A → Result A CheckFault

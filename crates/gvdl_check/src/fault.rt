@@ -45,6 +45,8 @@ fn fault_at(refusal: Refusal, statement: u32) -> CheckFault
         Refusal::WrongArguments => CheckFault::Fault(ScriptFault::WrongArguments(statement)),
         Refusal::TooManyViews => CheckFault::Fault(ScriptFault::TooManyViews(statement)),
         Refusal::BadRounds => CheckFault::Fault(ScriptFault::BadRounds(statement)),
+        Refusal::TooManyKept => CheckFault::Fault(ScriptFault::TooManyKept(statement)),
+        Refusal::BadSplit => CheckFault::Fault(ScriptFault::BadSplit(statement)),
     }
 }
 

@@ -6,3 +6,4 @@ pub mod Statements
 pub mod Parsing
 pub mod Script
 pub mod Judging
+pub mod FaultNumbers

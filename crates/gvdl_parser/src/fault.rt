@@ -1,5 +1,8 @@
 //! Why a text is no script.
 
+ghost use Rattle.std.specs.Prelude.{◌≡◌};
+ghost use Rattle.gvdl_parser.specs.FaultNumbers.{fault_number};
+
 use surge_outside::NoMemory;
 use thiserror::Error;
 
@@ -39,7 +42,7 @@ pub enum ScriptFault {
     /// Arguments that do not fit.
     #[error("WrongArguments")]
     WrongArguments(u32),
-    /// More than 64 views in a collection.
+    /// More than 1,024 views in a collection.
     #[error("TooManyViews")]
     TooManyViews(u32),
     /// A number of rounds that is not from 1 to 1,000,000.
@@ -51,6 +54,30 @@ pub enum ScriptFault {
     /// A split into segments of no view.
     #[error("BadSplit")]
     BadSplit(u32),
+}
+
+impl ScriptFault {
+    /// The fault's number, from 1 in the order of the declaration.
+    pub fn number(&self) -> u8
+        ensures { result ≡ fault_number self.now }
+    {
+        match self {
+            ScriptFault::NotUtf8 => 1,
+            ScriptFault::Syntax(_, _) => 2,
+            ScriptFault::NumberTooLarge(_, _) => 3,
+            ScriptFault::TooDeep(_, _) => 4,
+            ScriptFault::TooLarge => 5,
+            ScriptFault::UnknownName(_) => 6,
+            ScriptFault::RepeatedName(_) => 7,
+            ScriptFault::UnknownProperty(_) => 8,
+            ScriptFault::WrongType(_) => 9,
+            ScriptFault::WrongArguments(_) => 10,
+            ScriptFault::TooManyViews(_) => 11,
+            ScriptFault::BadRounds(_) => 12,
+            ScriptFault::TooManyKept(_) => 13,
+            ScriptFault::BadSplit(_) => 14,
+        }
+    }
 }
 
 /// Why [`parse`](crate::parse) answers no script.
@@ -65,6 +92,10 @@ pub enum ParseFault {
 }
 
 impl From<NoMemory> for ParseFault {
+    ghost use Rattle.gvdl_parser.specs.declared.fault.ParseFault.TheVariants as fault;
+
+    ghost from_gives = { λ _ e. e ≡ fault.NoMemory };
+
     fn from(_error: NoMemory) -> ParseFault {
         ParseFault::NoMemory
     }

@@ -17,6 +17,16 @@ const LOAD: &str = "load graph G nodes 'n4.csv' edges 'e1.csv';";
 /// NumberTooLarge, 4 TooDeep. Zeros mean a script, and 99 anything else.
 type Judged = (u8, u32, u32);
 
+// The line and the column of a fault, zeros where it has none.
+fn place_of(fault: ScriptFault) -> (u32, u32) {
+    match fault {
+        ScriptFault::Syntax(line, column) => (line, column),
+        ScriptFault::NumberTooLarge(line, column) => (line, column),
+        ScriptFault::TooDeep(line, column) => (line, column),
+        _ => (0, 0),
+    }
+}
+
 // What parsing answers for a text.
 fn judged(alloc: Global, text: &[u8]) -> Judged {
     if text.len() > 100_000 {
@@ -24,11 +34,11 @@ fn judged(alloc: Global, text: &[u8]) -> Judged {
     }
     match parse(alloc, text) {
         Ok(_) => (0, 0, 0),
-        Err(ParseFault::Fault(ScriptFault::NotUtf8)) => (1, 0, 0),
-        Err(ParseFault::Fault(ScriptFault::Syntax(line, column))) => (2, line, column),
-        Err(ParseFault::Fault(ScriptFault::NumberTooLarge(line, column))) => (3, line, column),
-        Err(ParseFault::Fault(ScriptFault::TooDeep(line, column))) => (4, line, column),
-        Err(_) => (99, 0, 0),
+        Err(ParseFault::Fault(fault)) => {
+            let (line, column) = place_of(fault);
+            (fault.number(), line, column)
+        }
+        Err(ParseFault::NoMemory) => (99, 0, 0),
     }
 }
 

@@ -17,9 +17,9 @@ use Rattle.gvdl_programs.specs.Columns.{int_column}
 use Rattle.gvdl_programs.specs.Filled.{filled_program}
 
 -- a number is needed
-abbrev pub number_of : Arg → Judged ℤ
-number_of (arg.Number z) = Ok z
-number_of (arg.Prop name) = Err refusal.WrongArguments
+abbrev pub number_argument : Arg → Judged ℤ
+number_argument (arg.Number z) = Ok z
+number_argument (arg.Prop name) = Err refusal.WrongArguments
 
 -- a property of the edges is needed, of whole numbers
 abbrev pub weight_of : GraphData → Arg → Judged ℕ
@@ -28,13 +28,13 @@ weight_of g (arg.Prop name) = int_column g.edge_columns name
 
 abbrev pub hops_called : List Arg → Judged Program
 hops_called (a ∷ []) = do
-  source ← number_of a
+  source ← number_argument a
   Ok (hops source)
 hops_called _ = Err refusal.WrongArguments
 
 abbrev pub dist_called : GraphData → List Arg → Judged Program
 dist_called g (a ∷ b ∷ []) = do
-  source ← number_of a
+  source ← number_argument a
   column ← weight_of g b
   Ok (dist source column)
 dist_called g _ = Err refusal.WrongArguments
@@ -48,7 +48,7 @@ plain_called program _ = Err refusal.WrongArguments
 abbrev pub written_called : ProgramTemplate → List Arg → Judged Program
 written_called t args = do
   expect (length args == t.parameters) refusal.WrongArguments
-  numbers ← each (map number_of args)
+  numbers ← each (map number_argument args)
   Ok (filled_program t numbers)
 
 abbrev pub called : GraphData → Callable → List Arg → Judged Program

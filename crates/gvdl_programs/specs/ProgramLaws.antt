@@ -27,7 +27,7 @@ use Rattle.gvdl_programs.specs.JudgingLaws.{through, same_value}
 use Rattle.gvdl_programs.specs.Expressions.{Places, expression}
 use Rattle.gvdl_programs.specs.Programs.{parameters_of, program_template, declared}
 use Rattle.gvdl_programs.specs.Filled.{filled_program}
-use Rattle.gvdl_programs.specs.Calls.{number_of, weight_of, hops_called, dist_called, plain_called, written_called, called}
+use Rattle.gvdl_programs.specs.Calls.{number_argument, weight_of, hops_called, dist_called, plain_called, written_called, called}
 use Rattle.gvdl_programs.specs.Fits.{TemplateFits, ProgramFits}
 use Rattle.gvdl_programs.specs.FitLaws.{int_found, expression_fits_so}
 use Rattle.gvdl_programs.specs.FillLaws.{filled_fits}
@@ -50,7 +50,7 @@ module _ (g : GraphData) (p : Program) where
   hops_fits : (args : List Arg) → hops_called args ≡ Ok p → IsChecked p g
   hops_fits [] e = absurd cc
   hops_fits (a ∷ []) e =
-      let t = through (number_of a) (λ source. Ok (hops source)) p e in
+      let t = through (number_argument a) (λ source. Ok (hops source)) p e in
       subst (λ (q : Program). IsChecked q g) (same_value (hops t.value) p t.rest) (hops_checked t.value g)
   hops_fits (a ∷ b ∷ more) e = absurd cc
 
@@ -62,7 +62,7 @@ module _ (g : GraphData) (p : Program) where
   dist_fits [] e = absurd cc
   dist_fits (a ∷ []) e = absurd cc
   dist_fits (a ∷ b ∷ []) e =
-      let t = through (number_of a) (λ source. weight_of g b >>= λ column. Ok (dist source column)) p e in
+      let t = through (number_argument a) (λ source. weight_of g b >>= λ column. Ok (dist source column)) p e in
       let u = through (weight_of g b) (λ column. Ok (dist t.value column)) p t.rest in
       subst (λ (q : Program). IsChecked q g) (same_value (dist t.value u.value) p u.rest) (dist_checked t.value u.value g (weight_fits b u.value u.first))
   dist_fits (a ∷ b ∷ c ∷ more) e = absurd cc
@@ -73,8 +73,8 @@ module _ (g : GraphData) (p : Program) where
 
   written_fits : (t : ProgramTemplate) (args : List Arg) → TemplateFits g t → written_called t args ≡ Ok p → IsChecked p g
   written_fits t args h e =
-      let a = through (expect (length args == t.parameters) refusal.WrongArguments) (λ _. each (map number_of args) >>= λ numbers. Ok (filled_program t numbers)) p e in
-      let b = through (each (map number_of args)) (λ numbers. Ok (filled_program t numbers)) p a.rest in
+      let a = through (expect (length args == t.parameters) refusal.WrongArguments) (λ _. each (map number_argument args) >>= λ numbers. Ok (filled_program t numbers)) p e in
+      let b = through (each (map number_argument args)) (λ numbers. Ok (filled_program t numbers)) p a.rest in
       subst (λ (q : Program). IsChecked q g) (same_value (filled_program t b.value) p b.rest) (record {
         start = filled_fits g part.Start b.value t.start ∙ h.start;
         send = filled_fits g part.Send b.value t.send ∙ h.send;

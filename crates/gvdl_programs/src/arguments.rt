@@ -3,7 +3,7 @@
 ghost use Rattle.std.specs.Prelude.{◌≡◌, map, IfOk};
 ghost use Rattle.vertex_lang.specs.Leaves.{IsChecked};
 ghost use Rattle.gvdl_programs.specs.Judging.{Tells, each};
-ghost use Rattle.gvdl_programs.specs.Calls.{number_of, weight_of, hops_called, dist_called, written_called, called};
+ghost use Rattle.gvdl_programs.specs.Calls.{number_argument, weight_of, hops_called, dist_called, written_called, called};
 ghost use Rattle.gvdl_programs.specs.Fits.{ProgramFits};
 
 use crate::column::int_column;
@@ -17,8 +17,8 @@ use std::alloc::Global;
 use surge_outside::List;
 use vertex_lang::Program;
 
-fn number_of(arg: &Arg) -> Result<i64, Stop>
-    ensures { Tells (number_of arg.now) result }
+fn number_argument(arg: &Arg) -> Result<i64, Stop>
+    ensures { Tells (number_argument arg.now) result }
 {
     match arg {
         Arg::Number(number) => Ok(*number),
@@ -26,12 +26,12 @@ fn number_of(arg: &Arg) -> Result<i64, Stop>
     }
 }
 
-fn numbers_of(alloc: Global, args: &[Arg]) -> Result<List<i64>, Stop>
-    ensures { Tells (each (map number_of args.now)) result }
+fn number_arguments(alloc: Global, args: &[Arg]) -> Result<List<i64>, Stop>
+    ensures { Tells (each (map number_argument args.now)) result }
 {
     let mut numbers = List::new(alloc);
     for arg in args {
-        numbers.push(number_of(arg)?)?;
+        numbers.push(number_argument(arg)?)?;
     }
     Ok(numbers)
 }
@@ -50,7 +50,7 @@ fn hops_called(alloc: Global, args: &[Arg]) -> Result<Program, Stop>
     ensures { Tells (hops_called args.now) result }
 {
     match args {
-        [source] => Ok(hops(alloc, number_of(source)?)?),
+        [source] => Ok(hops(alloc, number_argument(source)?)?),
         _ => Err(Stop::Refused(Refusal::WrongArguments)),
     }
 }
@@ -60,7 +60,7 @@ fn dist_called(alloc: Global, graph: &Graph, args: &[Arg]) -> Result<Program, St
 {
     match args {
         [source, weight] => {
-            let source = number_of(source)?;
+            let source = number_argument(source)?;
             let column = weight_of(graph, weight)?;
             Ok(dist(alloc, source, column as usize)?)
         }
@@ -74,7 +74,7 @@ fn written_called(alloc: Global, template: &ProgramTemplate, args: &[Arg]) -> Re
     if args.len() != template.parameters {
         return Err(Stop::Refused(Refusal::WrongArguments));
     }
-    let numbers = numbers_of(alloc, args)?;
+    let numbers = number_arguments(alloc, args)?;
     Ok(filled_program(alloc, template, numbers.as_slice())?)
 }
 

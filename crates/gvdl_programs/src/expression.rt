@@ -104,7 +104,7 @@ fn sign_of(sign: Cmp) -> ProgramCmp
 }
 
 // The number of a text, of which none is above 2^63 - 1.
-fn number_of(number: u64) -> i64
+fn clamped_number(number: u64) -> i64
     ensures { result ≡ clamped (pos number) }
 {
     number.min(i64::MAX as u64) as i64
@@ -147,7 +147,7 @@ pub(crate) fn expression(
             let member = boxed(alloc, graph, part, parameters, member.get())?;
             Ok(ExprTemplate::Minus(member))
         }
-        ExprTree::Number(number) => Ok(ExprTemplate::Number(number_of(*number))),
+        ExprTree::Number(number) => Ok(ExprTemplate::Number(clamped_number(*number))),
         ExprTree::Nil => Ok(ExprTemplate::Nil),
         ExprTree::Word(word) => word_judged(part, *word),
         ExprTree::EdgeProp(name) => edge_judged(graph, part, name.as_str()),

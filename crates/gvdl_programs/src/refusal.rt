@@ -24,6 +24,10 @@ pub enum Refusal {
     TooManyViews,
     /// A number of rounds that is not from 1 to 1,000,000.
     BadRounds,
+    /// A run more than may be kept.
+    TooManyKept,
+    /// A split into segments of no view.
+    BadSplit,
 }
 
 /// Why judging came to an end.

@@ -1,3 +1,4 @@
 pub mod Writing
 pub mod Counting
 pub mod Reading
+pub mod StaysOpen

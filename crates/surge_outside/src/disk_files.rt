@@ -1,8 +1,9 @@
 //! Files of the real system.
 
-ghost use Rattle.std.specs.Prelude.{◌≡◌, ◌≤◌, length, None, IfOk};
+ghost use Rattle.std.specs.Prelude.{◌≡◌, ◌≤◌, length, Some, None, IfOk, IfSome};
 ghost use Rattle.surge_outside.specs.Counts.{HasRisen, next_count};
 ghost use Rattle.surge_outside.specs.Held.{Fetches, FetchesUntold};
+ghost use Rattle.surge_outside.specs.Disk.{IsReadTo, OpensAt, LeavesOpen};
 ghost use Rattle.surge_outside.specs.Ends.{absences_after_call, faults_after_call};
 
 use crate::files::{Fetched, Files};
@@ -59,21 +60,36 @@ fn skip<F: Read>(file: &mut F, at: u64) -> Result<u64, Trouble>
     Ok(place)
 }
 
-/// Opens a file and reads past its first `at` bytes. [`None`] is that there is no such file.
+/// What opening a file at a place found.
+enum Opened<F> {
+    /// There is no such file.
+    Absent,
+    /// The file ends before the place.
+    Short,
+    /// The file, with all bytes before the place read.
+    At(Reading<F>),
+}
+
+/// Opens a file and reads past its first `at` bytes.
 fn open_at<R: SystemFiles>(
     alloc: Global,
     rt: &R,
     name: &str,
     at: u64,
-) -> Result<Option<Reading<R::File>>, Trouble> {
+) -> Result<Opened<R::File>, Trouble>
+    ensures { IfOk result (λ opened. OpensAt opened name.now at) }
+{
     if name.is_empty() {
-        return Ok(None);
+        return Ok(Opened::Absent);
     }
     let owned = String::from_str(alloc, name)?;
     match fs::open(rt, name) {
         Ok(mut file) => {
             let place = skip(&mut file, at)?;
-            Ok(Some(Reading {
+            if place < at {
+                return Ok(Opened::Short);
+            }
+            Ok(Opened::At(Reading {
                 name: owned,
                 place,
                 file,
@@ -81,7 +97,7 @@ fn open_at<R: SystemFiles>(
         }
         Err(error) => {
             if matches!(error.kind(), ErrorKind::NotFound) {
-                Ok(None)
+                Ok(Opened::Absent)
             } else {
                 Err(Trouble::Failed)
             }
@@ -89,38 +105,53 @@ fn open_at<R: SystemFiles>(
     }
 }
 
-/// The open file, if it is the one with this name and was read up to this place.
-fn continued<F: Drop>(reading: Option<Reading<F>>, name: &str, at: u64) -> Option<Reading<F>> {
+/// The open file, exactly if it is the one with this name and was read up to this place.
+fn continued<F: Drop>(reading: Option<Reading<F>>, name: &str, at: u64) -> Option<Reading<F>>
+    ensures kept { IfSome result (λ kept. (reading ≡ Some kept) × IsReadTo kept name.now at) }
+    ensures taken { IfSome reading (λ held. IsReadTo held name.now at → result ≡ Some held) }
+{
     match reading {
         Some(reading) if reading.place == at && reading.name.as_str() == name => Some(reading),
         _ => None,
     }
 }
 
-/// One fetch. Where it read, the file stays open.
+/// The file with this name, read up to this place: the one that is open, if it is that one, or opened anew.
+fn reach<R: SystemFiles + AllocGlobal>(
+    rt: &R,
+    kept: Option<Reading<R::File>>,
+    name: &str,
+    at: u64,
+) -> Result<Opened<R::File>, Trouble>
+    ensures { IfOk result (λ opened. OpensAt opened name.now at) }
+{
+    match continued(kept, name, at) {
+        Some(reading) => Ok(Opened::At(reading)),
+        None => open_at(rt.alloc(), rt, name, at),
+    }
+}
+
+/// One fetch. Where it read, the file stays open behind what was read.
 fn fetch_from_disk<R: SystemFiles + AllocGlobal>(
     rt: &R,
-    open: &mut Option<Reading<R::File>>,
+    kept: &mut Option<Reading<R::File>>,
     name: &str,
     at: u64,
     buf: &mut [u8],
 ) -> Result<Fetched, Trouble>
-    ensures { IfOk result (λ found. FetchesUntold found buf.new) }
+    ensures answer { IfOk result (λ found. FetchesUntold found buf.new) }
+    ensures kept { IfOk result (λ found. LeavesOpen found kept.new name.now at) }
 {
-    let mut reading = match continued(open.take(), name, at) {
-        Some(reading) => reading,
-        None => match open_at(rt.alloc(), rt, name, at)? {
-            Some(reading) => reading,
-            None => return Ok(Fetched::Absent),
-        },
-    };
-    if reading.place < at {
-        return Ok(Fetched::Bytes(0));
+    match reach(rt, kept.take(), name, at)? {
+        Opened::At(mut reading) => {
+            let count = read_some(&mut reading.file, buf)?;
+            reading.place = reading.place.saturating_add(count as u64);
+            *kept = Some(reading);
+            Ok(Fetched::Bytes(count))
+        }
+        Opened::Short => Ok(Fetched::Bytes(0)),
+        Opened::Absent => Ok(Fetched::Absent),
     }
-    let count = read_some(&mut reading.file, buf)?;
-    reading.place = reading.place.saturating_add(count as u64);
-    *open = Some(reading);
-    Ok(Fetched::Bytes(count))
 }
 
 /// Files of a runtime that opens files. It tells nothing of what they hold: that they are the files of the system is what

@@ -136,6 +136,15 @@ fn sure_files_are_read_whole(rt: HostRuntime) -> Result<(), Fail> {
 }
 
 #[test]
+fn endless_files_fill_every_buffer(rt: HostRuntime) -> Result<(), Fail> {
+    let mut buf = [0u8; 3];
+    let answer = EndlessFiles::new(32).fetch("any", 7, &mut buf);
+    assert_eq!(rt; answer, Ok(Fetched::Bytes(3)));
+    assert_eq!(rt; buf, [32, 32, 32]);
+    Ok(())
+}
+
+#[test]
 fn sinks_keep_what_is_put(rt: HostRuntime) -> Result<(), Fail> {
     let alloc = rt.alloc();
     let mut sure = SureSink::new(alloc, 2);

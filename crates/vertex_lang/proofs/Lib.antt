@@ -1,10 +1,10 @@
 pub mod ArcFacts
 pub mod Wide
-pub mod Extremes
+pub mod Repeats
 pub mod Chains
 pub mod Degrees
 pub mod Deliveries
 pub mod Updates
-pub mod Settling
 pub mod SmallGraphs
-pub mod Alikes
+pub mod NameCases
+pub mod Endings

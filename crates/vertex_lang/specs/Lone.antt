@@ -80,6 +80,15 @@ IsAnswerFrom values (rounds.For n) l = IsAfter values n l
 abbrev pub IsAnswer : Answer → Program → GraphData → List Arc → Rounds → Lone → Type 0
 IsAnswer answer p graph arcs limit l = IsAnswerFrom (lone answer p graph arcs) limit l
 
+-- ---- its rounds
+
+-- how many rounds were gone through, of at most or exactly so many: one more than those after which it settled, since the
+-- last one changed nothing
+abbrev pub rounds_run : ℕ → Outcome → ℕ
+rounds_run n (outcome.Settled r) = r + 1
+rounds_run n (outcome.After r) = r
+rounds_run n outcome.Unsettled = n
+
 -- ---- its size
 
 -- where the run settled, or went through all its rounds, there is a value for each node

@@ -1,11 +1,12 @@
--- An updater that computes the update expression makes the number -(2^63) only where it was handed it.
-use Rattle.std.specs.Prelude.{◌≡◌, ◌⊎◌, ◌++◌, ℕ, ℤ, pos, negsuc, ◌*ℤ◌, neg_ℤ, Bool, true, false, cond, int_lt, List, [], ◌∷◌, map, fold, flat_map, Contains}
+-- The number -(2^63) is made by no expression, and by no gathering, that wasn't handed it.
+use Rattle.std.specs.Prelude.{◌≡◌, ◌≢◌, ◌⊎◌, ◌++◌, ◌<◌, nat_lt, if◌then◌else◌, length, All, ℕ, zero, suc, ℤ, pos, negsuc, ◌*ℤ◌, neg_ℤ, Bool, true, false, cond, int_lt, List, [], ◌∷◌, map, fold, flat_map, Contains}
 use Rattle.std.specs.List.{list_all}
 use Rattle.std.specs.Ordering.{int_eq}
 use Rattle.std.specs.Int.RustNames.{int_div}
-use Rattle.std.proofs.Common.{inl, inr, sym, ap, subst, ◌∙◌, lit<, refl}
-use Rattle.std.proofs.lemmas.Bool.{cond_both, false≢true, true≢false}
-use Rattle.std.proofs.lemmas.List.Elements.{Contains-append_left, Contains-append_right}
+use Rattle.std.proofs.Common.{inl, inr, sym, ap, subst, ◌∙◌, lit<, add-one, arith}
+use Rattle.std.proofs.lemmas.Bool.{cond_both, false≢true, true≢false, ltb-true}
+use Rattle.std.proofs.lemmas.List.Elements.{All-contains, Contains-append_left, Contains-append_right}
+use Rattle.std.proofs.lemmas.List.{get_or_default}
 use Rattle.graph_model.specs.declared.value.Val.{Val}
 use Rattle.graph_model.specs.declared.value.Val.TheVariants.{Nil, Num}
 use Rattle.vertex_lang.specs.declared.program.Expr.{Expr}
@@ -13,10 +14,26 @@ use Rattle.vertex_lang.specs.declared.program.Check.{Check}
 use Rattle.vertex_lang.specs.declared.program.Check.TheOpen.{Expr-F}
 use Rattle.vertex_lang.specs.declared.program.Check.TheViews.{roll-Expr}
 use Rattle.vertex_lang.specs.declared.program.Check.TheFolds.{fold-roll-Expr, map-Expr, ind-Expr}
+use Rattle.graph_model.specs.declared.cell.Kind.{Kind}
+use Rattle.graph_model.specs.GraphData.{GraphData, Cell, HasNodeCells, HasEdgeCells, IsCellOf, id_of, kind_at, node_cell_of, edge_cell_of}
+use Rattle.vertex_lang.specs.declared.arc.Arc.{Arc}
+use Rattle.vertex_lang.specs.declared.lone.Lone.{Lone}
+use Rattle.vertex_lang.specs.declared.lone.Outcome.{Outcome}
+use Rattle.vertex_lang.specs.declared.lone.Outcome.TheVariants as outcome
+use Rattle.vertex_lang.specs.declared.lone.Rounds.{Rounds}
+use Rattle.vertex_lang.specs.declared.lone.Rounds.TheVariants as rounds
+use Rattle.vertex_lang.specs.declared.program.Gather.{Gather}
+use Rattle.vertex_lang.specs.declared.program.Gather.TheVariants as gather
 use Rattle.vertex_lang.specs.declared.program.Program.{Program}
-use Rattle.vertex_lang.specs.Values.{clamped, greatest, least, lowest, lowest_number, added, multiplied, divided, scaled, negated, first_given, in_range, exact_sum}
+use Rattle.vertex_lang.specs.Values.{clamped, greatest, least, lowest, lowest_number, added, multiplied, divided, scaled, negated, first_given, in_range, exact_sum, value_of_cell}
 use Rattle.vertex_lang.specs.Leaves.{Leaf, HoldsNumber, leaves_of, leaves_of_check, leaves_in, leaves_in_check}
-use Rattle.vertex_lang.specs.Expressions.{Environment, updated, update_words, no_property, value_of, holds_of, check_holds, expression_value}
+use Rattle.vertex_lang.specs.Expressions.{Answer, Environment, start_of, sent_by, updated, start_words, send_words, update_words, node_value, edge_value, no_property, value_of, holds_of, check_holds, expression_value}
+use Rattle.vertex_lang.specs.Arcs.{IsArc, gathered_of, outdeg, total}
+use Rattle.vertex_lang.specs.Rounds.{carried, lone, next_of, received, value_at}
+use Rattle.vertex_lang.specs.Lone.{IsAnswer, OutcomeIs}
+use Rattle.vertex_lang.specs.ExtremeLaws.{contains-none, greatest-gathered, least-gathered}
+use Rattle.vertex_lang.specs.MessageLaws.{message-from}
+use Rattle.vertex_lang.specs.RoundLaws.{length-lone, next-at, start-at}
 
 abbrev is_pos : ℤ → Bool
 is_pos (pos n) = true
@@ -80,8 +97,8 @@ given_head : (v : Val) (rest : List Val) → first_given (v ∷ rest) ≡ lowest
 given_head Nil rest e = inr e
 given_head (Num z) rest e = inl e
 
--- in words that name no property
-module _ (words : Environment) (no_edge : (column : ℕ) → words.edge_property column ≡ Nil) (no_node : (column : ℕ) → words.node_property column ≡ Nil) where
+-- in words whose properties aren't that number
+module _ (words : Environment) (no_edge : (column : ℕ) → words.edge_property column ≢ lowest) (no_node : (column : ℕ) → words.node_property column ≢ lowest) where
   abbrev WasGiven : List Leaf → Type 0
   WasGiven leaves = Contains leaves (Leaf.number lowest_number) ⊎ ((words.start ≡ lowest) ⊎ ((words.value ≡ lowest) ⊎ (words.gathered ≡ lowest)))
 
@@ -146,16 +163,122 @@ module _ (words : Environment) (no_edge : (column : ℕ) → words.edge_property
   given_at A B f g h Expr-F.Gathered e = inr (inr (inr (sym (value_roll Expr-F.Gathered) ∙ e)))
   given_at A B f g h Expr-F.Count e = absurd (other_sign _ _ (ap number_in (sym (value_roll Expr-F.Count) ∙ e)))
   given_at A B f g h Expr-F.Outdeg e = absurd (other_sign _ _ (ap number_in (sym (value_roll Expr-F.Outdeg) ∙ e)))
-  given_at A B f g h (Expr-F.EdgeProp column) e = absurd (not_nil (sym (no_edge column) ∙ sym (value_roll (Expr-F.EdgeProp column)) ∙ e))
-  given_at A B f g h (Expr-F.NodeProp column) e = absurd (not_nil (sym (no_node column) ∙ sym (value_roll (Expr-F.NodeProp column)) ∙ e))
+  given_at A B f g h (Expr-F.EdgeProp column) e = absurd (no_edge column (sym (value_roll (Expr-F.EdgeProp column)) ∙ e))
+  given_at A B f g h (Expr-F.NodeProp column) e = absurd (no_node column (sym (value_roll (Expr-F.NodeProp column)) ∙ e))
   given_at A B f g h (Expr-F.Least a b) e = absurd (not_in_range _ (sym (value_roll (Expr-F.Least (g a) (g b))) ∙ e))
   given_at A B f g h (Expr-F.Most a b) e = absurd (not_in_range _ (sym (value_roll (Expr-F.Most (g a) (g b))) ∙ e))
 
   given : (e : Expr) → Given e
   given = ind-Expr (λ _. Unit {0}) Given (λ x y e. tt) (λ x y e. subst (λ z. Given (roll-Expr z)) e (given_at _ _ (λ e. e.0) (λ e. e.0) (λ e. e.1) y))
 
+no-property-lowest : (column : ℕ) → no_property column ≢ lowest
+no-property-lowest column e = not_nil e
+
+-- ---- updates
+
 pub lowest_given : (p : Program) (id : ℕ) (start value gathered : Val) (count : ℕ) → updated p id start value gathered count ≡ lowest → HoldsNumber p lowest_number ⊎ ((start ≡ lowest) ⊎ ((value ≡ lowest) ⊎ (gathered ≡ lowest)))
 lowest_given p id start value gathered count e =
     let words = update_words id start value gathered count in
-    let none : (column : ℕ) → no_property column ≡ Nil = λ column. refl in
-    right_of words none none (leaves_of p.start) (leaves_of p.send ++ leaves_of p.update) (right_of words none none (leaves_of p.send) (leaves_of p.update) (given words none none p.update e))
+    right_of words no-property-lowest no-property-lowest (leaves_of p.start) (leaves_of p.send ++ leaves_of p.update)
+    (right_of words no-property-lowest no-property-lowest (leaves_of p.send) (leaves_of p.update) (given words no-property-lowest no-property-lowest p.update e))
+
+-- ---- properties
+
+cell-not-lowest : (kind : Kind) (c : Cell) → IsCellOf kind c → value_of_cell c ≢ lowest
+cell-not-lowest kind Cell.absent h e = not_nil e
+cell-not-lowest kind (Cell.int z) h e = h.1 (ap number_in e)
+cell-not-lowest kind (Cell.str bytes) h e = not_nil e
+cell-not-lowest kind (Cell.bool b) h e = not_nil e
+
+column-not-lowest : (count column : ℕ) (v : Val) → (column < count → v ≢ lowest) → (if nat_lt column count then v else Nil) ≢ lowest
+column-not-lowest count column v h = cond_both (nat_lt column count) v Nil (λ w. w ≢ lowest) (λ t. h (ltb-true column count t)) (λ t. not_nil)
+
+node-not-lowest : (graph : GraphData) (v column : ℕ) → HasNodeCells graph → v < length graph.ids → node_value graph v column ≢ lowest
+node-not-lowest graph v column cells low = column-not-lowest (length graph.node_columns) column (value_of_cell (node_cell_of graph v column)) (λ here. cell-not-lowest (kind_at graph.node_columns column) (node_cell_of graph v column) (cells.each v column low here))
+
+edge-not-lowest : (graph : GraphData) (edge column : ℕ) → HasEdgeCells graph → edge < length graph.ends → edge_value graph edge column ≢ lowest
+edge-not-lowest graph edge column cells low = column-not-lowest (length graph.edge_columns) column (value_of_cell (edge_cell_of graph edge column)) (λ here. cell-not-lowest (kind_at graph.edge_columns column) (edge_cell_of graph edge column) (cells.each edge column low here))
+
+-- ---- starts and messages
+
+start-held : (leaves : List Leaf) → Contains leaves (Leaf.number lowest_number) ⊎ ((Nil ≡ lowest) ⊎ ((Nil ≡ lowest) ⊎ (Nil ≡ lowest))) → Contains leaves (Leaf.number lowest_number)
+start-held leaves (inl h) = h
+start-held leaves (inr (inl e)) = absurd (not_nil e)
+start-held leaves (inr (inr (inl e))) = absurd (not_nil e)
+start-held leaves (inr (inr (inr e))) = absurd (not_nil e)
+
+pub lowest_start : (p : Program) (graph : GraphData) (v : ℕ) → HasNodeCells graph → v < length graph.ids → start_of p graph v ≡ lowest → HoldsNumber p lowest_number
+lowest_start p graph v cells low e =
+    let words = start_words graph v in
+    Contains-append_left (leaves_of p.start) (leaves_of p.send ++ leaves_of p.update) (Leaf.number lowest_number)
+    (start-held (leaves_of p.start) (given words no-property-lowest (λ column. node-not-lowest graph v column cells low) p.start e))
+
+sent-held : (leaves : List Leaf) (value : Val) → Contains leaves (Leaf.number lowest_number) ⊎ ((Nil ≡ lowest) ⊎ ((value ≡ lowest) ⊎ (Nil ≡ lowest))) → Contains leaves (Leaf.number lowest_number) ⊎ (value ≡ lowest)
+sent-held leaves value (inl h) = inl h
+sent-held leaves value (inr (inl e)) = absurd (not_nil e)
+sent-held leaves value (inr (inr (inl e))) = inr e
+sent-held leaves value (inr (inr (inr e))) = absurd (not_nil e)
+
+held-in-send : (p : Program) (value : Val) → Contains (leaves_of p.send) (Leaf.number lowest_number) ⊎ (value ≡ lowest) → HoldsNumber p lowest_number ⊎ (value ≡ lowest)
+held-in-send p value (inl h) = inl (Contains-append_right (leaves_of p.start) (leaves_of p.send ++ leaves_of p.update) (Leaf.number lowest_number) (Contains-append_left (leaves_of p.send) (leaves_of p.update) (Leaf.number lowest_number) h))
+held-in-send p value (inr e) = inr e
+
+pub lowest_sent : (p : Program) (graph : GraphData) (tail : ℕ) (value : Val) (outdeg edge : ℕ) → HasEdgeCells graph → edge < length graph.ends → sent_by p graph tail value outdeg edge ≡ lowest → HoldsNumber p lowest_number ⊎ (value ≡ lowest)
+lowest_sent p graph tail value outdeg edge cells low e =
+    let words = send_words graph tail value outdeg edge in
+    held-in-send p value (sent-held (leaves_of p.send) value (given words (λ column. edge-not-lowest graph edge column cells low) no-property-lowest p.send e))
+
+-- ---- gathering
+
+pub lowest_gathered : (kind : Gather) (ms : List Val) → gathered_of kind ms ≡ lowest → Contains ms lowest
+lowest_gathered gather.Min ms e = (least-gathered ms).member lowest_number e
+lowest_gathered gather.Max ms e = (greatest-gathered ms).member lowest_number e
+lowest_gathered gather.Sum ms e = absurd (not_clamped (total ms) (ap number_in e))
+lowest_gathered gather.Count ms e = absurd (other_sign _ _ (ap number_in e))
+
+-- ---- rounds
+
+abbrev pub OnlyGiven : Answer → Type 0
+OnlyGiven answer = (p : Program) (id : ℕ) (start value gathered : Val) (count : ℕ) → answer p id start value gathered count ≡ lowest → HoldsNumber p lowest_number ⊎ ((start ≡ lowest) ⊎ ((value ≡ lowest) ⊎ (gathered ≡ lowest)))
+
+module _ (answer : Answer) (only : OnlyGiven answer) (p : Program) (graph : GraphData) (nodes : HasNodeCells graph) (edges : HasEdgeCells graph) (arcs : List Arc) (are_arcs : All (IsArc graph) arcs) where
+  abbrev NoneMade : List Val → Type 0
+  NoneMade values = (v : ℕ) → v < length graph.ids → value_at values v ≡ lowest → HoldsNumber p lowest_number
+
+  held-or-tail : (values : List Val) (a : Arc) → NoneMade values → IsArc graph a → HoldsNumber p lowest_number ⊎ (value_at values a.tail.0 ≡ lowest) → HoldsNumber p lowest_number
+  held-or-tail values a before is_arc (inl h) = h
+  held-or-tail values a before is_arc (inr e) = before a.tail.0 is_arc.tail e
+
+  lowest-received : (values : List Val) (v : ℕ) → NoneMade values → Contains (received p graph arcs values v) lowest → HoldsNumber p lowest_number
+  lowest-received values v before h =
+      let told = message-from (carried p graph arcs values) arcs v lowest h in
+      let a = told.0 in
+      let is_arc = All-contains (IsArc graph) arcs a are_arcs told.1 in
+      held-or-tail values a before is_arc (lowest_sent p graph a.tail.0 (value_at values a.tail.0) (outdeg arcs a.tail.0) a.edge.0 edges is_arc.edge told.3)
+
+  lowest-next : (values : List Val) (v : ℕ) → NoneMade values → v < length graph.ids → HoldsNumber p lowest_number ⊎ ((start_of p graph v ≡ lowest) ⊎ ((value_at values v ≡ lowest) ⊎ (gathered_of p.gather (received p graph arcs values v) ≡ lowest))) → HoldsNumber p lowest_number
+  lowest-next values v before low (inl h) = h
+  lowest-next values v before low (inr (inl e)) = lowest_start p graph v nodes low e
+  lowest-next values v before low (inr (inr (inl e))) = before v low e
+  lowest-next values v before low (inr (inr (inr e))) = lowest-received values v before (lowest_gathered p.gather (received p graph arcs values v) e)
+
+  lowest-lone : (r : ℕ) → NoneMade (lone answer p graph arcs r)
+  lowest-lone zero = λ v low e. lowest_start p graph v nodes low (sym (start-at answer p graph arcs v low) ∙ e)
+  lowest-lone (suc r) = λ v low e.
+      let values = lone answer p graph arcs r in
+      let next : next_of answer p graph arcs values v ≡ lowest = sym (next-at answer p graph arcs r v low) ∙ ap (λ k. value_at (lone answer p graph arcs k) v) (add-one r) ∙ e in
+      lowest-next values v (lowest-lone r) low (only p (id_of graph v) (start_of p graph v) (value_at values v) (gathered_of p.gather (received p graph arcs values v)) (length (received p graph arcs values v)) next)
+
+  in-lone : (r : ℕ) (values : List Val) → values ≡ lone answer p graph arcs r → Contains values lowest → HoldsNumber p lowest_number
+  in-lone r values same h =
+      let low : h.0 < length graph.ids = omega (arith, h.1, ap (λ (vs : List Val). length vs) same, length-lone answer p graph arcs r) in
+      lowest-lone r h.0 low (ap (λ (vs : List Val). value_at vs h.0) (sym same) ∙ get_or_default values h.0 Nil lowest h.1 ∙ h.2)
+
+  in-outcome : (n : ℕ) (o : Outcome) (values : List Val) → OutcomeIs (lone answer p graph arcs) n o values → Contains values lowest → HoldsNumber p lowest_number
+  in-outcome n (outcome.Settled r) values h c = in-lone r values h.1 c
+  in-outcome n (outcome.After r) values h c = absurd h
+  in-outcome n outcome.Unsettled values h c = absurd (contains-none lowest (subst (λ vs. Contains vs lowest) h.1 c))
+
+  pub lowest_in_answer : (limit : Rounds) (l : Lone) → IsAnswer answer p graph arcs limit l → Contains l.values lowest → HoldsNumber p lowest_number
+  lowest_in_answer (rounds.Within n) l h c = in-outcome n l.outcome l.values h c
+  lowest_in_answer (rounds.For n) l h c = in-lone n l.values h.1 c

@@ -8,13 +8,10 @@ use Rattle.vertex_lang.specs.declared.program.Program.{Program}
 use Rattle.vertex_lang.specs.declared.program.Gather.{Gather}
 use Rattle.vertex_lang.specs.declared.program.Gather.TheVariants as gather
 use Rattle.vertex_lang.specs.declared.mail.Mail.{Mail}
-use Rattle.vertex_lang.specs.declared.lone.Outcome.{Outcome}
-use Rattle.vertex_lang.specs.declared.lone.Outcome.TheVariants as outcome
 use Rattle.vertex_lang.specs.Values.{lesser, greater, clamped}
 use Rattle.vertex_lang.specs.Arcs.{outdeg, messages, total}
 use Rattle.vertex_lang.specs.Expressions.{Answer}
 use Rattle.vertex_lang.specs.Rounds.{value_at}
-use Rattle.vertex_lang.specs.Lone.{SettlesAt, NeverSettles}
 
 -- the least or the greatest message with one message more, where the one or the other is gathered
 abbrev pub extreme_with : Gather → Val → Val → Val
@@ -74,9 +71,3 @@ next_from answer p graph starts mail values v =
 -- whether they differ
 abbrev pub TellsChange : Bool → List Val → List Val → Type 0
 TellsChange changed new old = MatchBool changed (new ≢ old) (new ≡ old)
-
--- the outcome of at most n rounds, and the values at the end where it is settled
-abbrev pub RunsTo : (ℕ → List Val) → ℕ → Outcome → List Val → Type 0
-RunsTo values n (outcome.Settled r) last = SettlesAt values n r × (last ≡ values r)
-RunsTo values n (outcome.After r) last = ⊥
-RunsTo values n outcome.Unsettled last = NeverSettles values n

@@ -1,20 +1,19 @@
 //! The plain run of a program.
 
-ghost use Rattle.std.specs.Prelude.{◌≡◌, ◌<◌, ◌≤◌, ◌+◌, ◌*◌, ◌^◌, length, map, All, IfOk, IsTrue};
-ghost use Rattle.vertex_lang.specs.Leaves.{IsChecked};
-ghost use Rattle.vertex_lang.specs.Expressions.{start_of};
+ghost use Rattle.std.specs.Prelude.{◌≡◌, ◌<◌, ◌≤◌, ◌+◌, ◌*◌, ◌^◌, length, All, Contains, IfOk, OnErr};
+ghost use Rattle.vertex_lang.specs.Values.{lowest, lowest_number};
+ghost use Rattle.vertex_lang.specs.Leaves.{HoldsNumber, IsChecked};
 ghost use Rattle.vertex_lang.specs.Arcs.{IsArc};
-ghost use Rattle.vertex_lang.specs.Rounds.{nodes_of, lone};
-ghost use Rattle.vertex_lang.specs.Alike.{IgnoresEdge};
-ghost use Rattle.vertex_lang.specs.Mail.{HasDegrees, RunsTo};
-ghost use Rattle.vertex_lang.specs.Lone.{number_of, answer_of, IsAnswer, IsAfter, OutcomeIs, HasAllValues};
+ghost use Rattle.vertex_lang.specs.Rounds.{lone};
+ghost use Rattle.vertex_lang.specs.RunsTo.{RunsTo, RunsWithin, told};
+ghost use Rattle.vertex_lang.specs.Settings.{HasSizes};
+ghost use Rattle.vertex_lang.specs.Lone.{number_of, answer_of, IsAnswer, HasAllValues, rounds_run};
 
-use crate::alike::ignores_edge;
 use crate::arc::Arc;
-use crate::mail::{Mail, count_degrees, empty_mail, no_messages};
 use crate::program::Program;
-use crate::round::{advance, start_values};
+use crate::setting::{Lists, Setting};
 use crate::updater::Updater;
+use crate::words::cells_are_proper;
 use graph_model::{Graph, Val};
 use std::alloc::Global;
 use surge_outside::{List, NoMemory};
@@ -48,10 +47,11 @@ pub struct Lone {
 
 /// Runs a program alone, round by round, over these arcs. All nodes change together, from their start values on. A run
 /// within a number of rounds stops where nothing changes, so it costs the arcs and nodes once for each round until then;
-/// a run for a number of rounds goes through all of them. A message that names no property of the edge, and is made of
-/// words, sums and products alone, is computed once for each node, and any other once for each arc. The updater is called
-/// at most once for each node and round. The error is want of memory, before the first round. (Rounds over all vertices:
-/// Malewicz et al. 2010; as the plain run that a view collection is compared with: Sahu and Salihoglu 2021.)
+/// a run for a number of rounds goes through all of them. A message that names no property of the edge is computed once
+/// for each node, and any other once for each arc. The updater is called once for each node in each round, also in the
+/// last one of a run that settles, which changes nothing. The error is want of memory, before the first round, and then
+/// the updater was not called. A value is the number -(2^63) only where the program holds that number. (Rounds over all
+/// vertices: Malewicz et al. 2010; as the plain run that a view collection is compared with: Sahu and Salihoglu 2021.)
 pub fn lone_run<U: Updater>(
     alloc: Global,
     program: &Program,
@@ -68,166 +68,70 @@ pub fn lone_run<U: Updater>(
     ensures answer { IfOk result (λ l. l ≡ answer_of U.answer program.now graph.now arcs.now rounds) }
     ensures meaning { IfOk result (λ l. IsAnswer U.answer program.now graph.now arcs.now rounds l) }
     ensures size { IfOk result (λ l. HasAllValues graph.now l) }
-    ensures steps { U.calls updater.new ≤ U.calls updater.old + length graph.now.ids * number_of rounds }
-    ensures falls { U.calls updater.old ≤ U.calls updater.new }
+    ensures lowest { IfOk result (λ l. Contains l.values lowest → HoldsNumber program.now lowest_number) }
+    ensures calls { IfOk result (λ l. U.calls updater.new ≡ U.calls updater.old + length graph.now.ids * rounds_run (number_of rounds) l.outcome) }
+    ensures few_rounds { IfOk result (λ l. rounds_run (number_of rounds) l.outcome ≤ number_of rounds) }
+    ensures refused { OnErr result (U.calls updater.new ≡ U.calls updater.old) }
 {
-    match rounds {
-        Rounds::Within(limit) => run_within(alloc, program, graph, arcs, limit, updater),
-        Rounds::For(count) => run_for(alloc, program, graph, arcs, count, updater),
-    }
+    cells_are_proper(graph);
+    let setting = Setting::new(alloc, program, graph, arcs)?;
+    let mut lists = Lists::new(alloc, &setting)?;
+    let outcome = setting.run(rounds, &mut lists, updater);
+    Ok(answer(alloc, outcome, lists.values))
 }
 
-// Runs until nothing changes, and so many rounds at most.
-fn run_within<U: Updater>(
-    alloc: Global,
-    program: &Program,
-    graph: &Graph,
-    arcs: &[Arc],
-    limit: u32,
-    updater: &mut U,
-) -> Result<Lone, NoMemory>
-    requires checked { IsChecked program.now graph.now }
-    requires arcs { All (IsArc graph.now) arcs.now }
-    requires few { length arcs.now < 2 ^ 32 }
-    ensures meaning { IfOk result (λ l. OutcomeIs (lone U.answer program.now graph.now arcs.now) limit l.outcome l.values) }
-    ensures steps { U.calls updater.new ≤ U.calls updater.old + length graph.now.ids * limit }
-    ensures falls { U.calls updater.old ≤ U.calls updater.new }
+// The answer with this outcome, where the run ended with these values.
+fn answer(alloc: Global, outcome: Outcome, values: Vec<Val>) -> Lone
+    ensures { result ≡ told outcome values.items }
 {
-    let degrees = count_degrees(alloc, graph, arcs)?;
-    let alike = ignores_edge(&program.send);
-    let starts = start_values(alloc, program, graph)?;
-    let mut sent = no_messages(alloc, graph)?;
-    let mut mail = empty_mail(alloc, graph)?;
-    let mut values = Vec::from_slice(alloc, &starts)?;
-    let outcome = run_rounds(
-        program,
-        graph,
-        arcs,
-        &degrees,
-        alike,
-        &starts,
-        limit,
-        &mut sent,
-        &mut mail,
-        &mut values,
-        updater,
-    );
     let values = match outcome {
         Outcome::Settled(_) | Outcome::After(_) => List::from_vec(values),
         Outcome::Unsettled => List::new(alloc),
     };
-    Ok(Lone { outcome, values })
+    Lone { outcome, values }
 }
 
-// Takes the values on from the start until nothing changes, and so many rounds at most.
-fn run_rounds<U: Updater>(
-    program: &Program,
-    graph: &Graph,
-    arcs: &[Arc],
-    degrees: &[u64],
-    alike: bool,
-    starts: &[Val],
-    limit: u32,
-    sent: &mut [Val],
-    mail: &mut [Mail],
-    values: &mut [Val],
-    updater: &mut U,
-) -> Outcome
-    requires checked { IsChecked program.now graph.now }
-    requires arcs { All (IsArc graph.now) arcs.now }
-    requires few { length arcs.now < 2 ^ 32 }
-    requires degrees { HasDegrees arcs.now degrees.now }
-    requires degrees_size { length degrees.now ≡ length graph.now.ids }
-    requires alike { IsTrue alike → IgnoresEdge program.now.send }
-    requires starts { starts.now ≡ map (start_of program.now graph.now) (nodes_of graph.now) }
-    requires sent_size { length sent.old ≡ length graph.now.ids }
-    requires mail_size { length mail.old ≡ length graph.now.ids }
-    requires values { values.old ≡ starts.now }
-    ensures outcome { RunsTo (lone U.answer program.now graph.now arcs.now) limit result values.new }
-    ensures steps { U.calls updater.new ≤ U.calls updater.old + length graph.now.ids * limit }
-    ensures falls { U.calls updater.old ≤ U.calls updater.new }
-{
-    for round in 0..limit {
-        if !advance(
-            program, graph, arcs, degrees, alike, starts, sent, mail, values, updater,
-        ) {
-            return Outcome::Settled(round);
+impl Setting<'_> {
+    // Takes the values on from the start for these rounds.
+    fn run<U: Updater>(&self, rounds: Rounds, lists: &mut Lists, updater: &mut U) -> Outcome
+        requires sizes { HasSizes self.now.graph.now lists.old.values.items lists.old.sent.items lists.old.mail.items }
+        requires values { lists.old.values.items ≡ self.now.starts.items }
+        ensures outcome { RunsTo (lone U.answer self.now.program.now self.now.graph.now self.now.arcs.now) rounds result lists.new.values.items }
+        ensures calls { U.calls updater.new ≡ U.calls updater.old + length self.now.graph.now.ids * rounds_run (number_of rounds) result }
+    {
+        match rounds {
+            Rounds::Within(limit) => self.run_within(limit, lists, updater),
+            Rounds::For(count) => {
+                self.run_for(count, lists, updater);
+                Outcome::After(count)
+            }
         }
     }
-    Outcome::Unsettled
-}
 
-// Runs for exactly so many rounds.
-fn run_for<U: Updater>(
-    alloc: Global,
-    program: &Program,
-    graph: &Graph,
-    arcs: &[Arc],
-    count: u32,
-    updater: &mut U,
-) -> Result<Lone, NoMemory>
-    requires checked { IsChecked program.now graph.now }
-    requires arcs { All (IsArc graph.now) arcs.now }
-    requires few { length arcs.now < 2 ^ 32 }
-    ensures meaning { IfOk result (λ l. IsAfter (lone U.answer program.now graph.now arcs.now) count l) }
-    ensures steps { U.calls updater.new ≤ U.calls updater.old + length graph.now.ids * count }
-    ensures falls { U.calls updater.old ≤ U.calls updater.new }
-{
-    let degrees = count_degrees(alloc, graph, arcs)?;
-    let alike = ignores_edge(&program.send);
-    let starts = start_values(alloc, program, graph)?;
-    let mut sent = no_messages(alloc, graph)?;
-    let mut mail = empty_mail(alloc, graph)?;
-    let mut values = Vec::from_slice(alloc, starts.as_slice())?;
-    run_each(
-        program,
-        graph,
-        arcs,
-        &degrees,
-        alike,
-        &starts,
-        count,
-        &mut sent,
-        &mut mail,
-        &mut values,
-        updater,
-    );
-    Ok(Lone {
-        outcome: Outcome::After(count),
-        values: List::from_vec(values),
-    })
-}
+    // Takes them on until nothing changes, and so many rounds at most.
+    fn run_within<U: Updater>(&self, limit: u32, lists: &mut Lists, updater: &mut U) -> Outcome
+        requires sizes { HasSizes self.now.graph.now lists.old.values.items lists.old.sent.items lists.old.mail.items }
+        requires values { lists.old.values.items ≡ self.now.starts.items }
+        ensures outcome { RunsWithin (lone U.answer self.now.program.now self.now.graph.now self.now.arcs.now) limit result lists.new.values.items }
+        ensures calls { U.calls updater.new ≡ U.calls updater.old + length self.now.graph.now.ids * rounds_run limit result }
+    {
+        for round in 0..limit {
+            if !self.advance(lists, updater) {
+                return Outcome::Settled(round);
+            }
+        }
+        Outcome::Unsettled
+    }
 
-// Takes the values on from the start for exactly so many rounds.
-fn run_each<U: Updater>(
-    program: &Program,
-    graph: &Graph,
-    arcs: &[Arc],
-    degrees: &[u64],
-    alike: bool,
-    starts: &[Val],
-    count: u32,
-    sent: &mut [Val],
-    mail: &mut [Mail],
-    values: &mut [Val],
-    updater: &mut U,
-)
-    requires checked { IsChecked program.now graph.now }
-    requires arcs { All (IsArc graph.now) arcs.now }
-    requires few { length arcs.now < 2 ^ 32 }
-    requires degrees { HasDegrees arcs.now degrees.now }
-    requires degrees_size { length degrees.now ≡ length graph.now.ids }
-    requires alike { IsTrue alike → IgnoresEdge program.now.send }
-    requires starts { starts.now ≡ map (start_of program.now graph.now) (nodes_of graph.now) }
-    requires sent_size { length sent.old ≡ length graph.now.ids }
-    requires mail_size { length mail.old ≡ length graph.now.ids }
-    requires values { values.old ≡ starts.now }
-    ensures values { values.new ≡ lone U.answer program.now graph.now arcs.now count }
-    ensures steps { U.calls updater.new ≡ U.calls updater.old + length graph.now.ids * count }
-{
-    for _round in 0..count {
-        advance(
-            program, graph, arcs, degrees, alike, starts, sent, mail, values, updater,
-        );
+    // Takes them on for exactly so many rounds.
+    fn run_for<U: Updater>(&self, count: u32, lists: &mut Lists, updater: &mut U)
+        requires sizes { HasSizes self.now.graph.now lists.old.values.items lists.old.sent.items lists.old.mail.items }
+        requires values { lists.old.values.items ≡ self.now.starts.items }
+        ensures values { lists.new.values.items ≡ lone U.answer self.now.program.now self.now.graph.now self.now.arcs.now count }
+        ensures calls { U.calls updater.new ≡ U.calls updater.old + length self.now.graph.now.ids * count }
+    {
+        for _round in 0..count {
+            self.advance(lists, updater);
+        }
     }
 }

@@ -15,7 +15,8 @@ use std::sync::ledger::Ledger;
 use surge_outside::{Counted, Steps};
 
 /// The value of the update expression of a program, for a node of this id (below 2^63) with this start, value and
-/// gathered value, that got so many messages (below 2^32). It takes one step, and no memory.
+/// gathered value, that got so many messages (below 2^32). It is the number -(2^63) only where the program or one of the
+/// three values holds that number. It takes one step, and no memory.
 pub fn eval<L: Ledger>(
     program: &Program,
     id: u64,
@@ -29,6 +30,7 @@ pub fn eval<L: Ledger>(
     requires id { id < 2 ^ 63 }
     requires count { count < 2 ^ 32 }
     ensures answer { result ≡ updated program.now id start value gathered count }
+    ensures lowest { result ≡ lowest → HoldsNumber program.now lowest_number ⊎ ((start ≡ lowest) ⊎ ((value ≡ lowest) ⊎ (gathered ≡ lowest))) }
     ensures step { steps.new ≡ steps.old + 1 }
 {
     steps.tick();

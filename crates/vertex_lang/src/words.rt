@@ -1,7 +1,7 @@
 //! What the words of an expression stand for.
 
 ghost use Rattle.std.specs.Prelude.{◌≡◌, ◌<◌, length};
-ghost use Rattle.graph_model.specs.GraphData.{cell_of};
+ghost use Rattle.graph_model.specs.GraphData.{cell_of, HasNodeCells, HasEdgeCells};
 ghost use Rattle.vertex_lang.specs.Expressions.{node_value, edge_value};
 ghost use Rattle.vertex_lang.specs.Naming.{AreThere, node_property_of, edge_property_of};
 ghost use Rattle.vertex_lang.specs.Values.{value_of_cell};
@@ -59,6 +59,15 @@ impl Properties<'_> {
             Properties::Edge(graph, edge) => edge_number(graph, *edge, column as usize),
         }
     }
+}
+
+/// What is known of the cells of each graph: none holds the number -(2^63).
+pub(crate) fn cells_are_proper(graph: &Graph)
+    ensures nodes { HasNodeCells graph.now }
+    ensures edges { HasEdgeCells graph.now }
+{
+    let _ = graph.node_columns();
+    let _ = graph.edge_columns();
 }
 
 // The number of a node in a column, none where the cell is absent.

@@ -39,7 +39,7 @@ enum Operation {
 // An operation, its operands, and its value.
 type Row = (Operation, Val, Val, Val);
 
-const SUMS: [Row; 17] = [
+const SUMS: [Row; 10] = [
     (Operation::Add, Val::Num(2), Val::Num(3), Val::Num(5)),
     (
         Operation::Add,
@@ -53,40 +53,15 @@ const SUMS: [Row; 17] = [
         Val::Num(-1),
         Val::Num(-GREATEST),
     ),
-    (
-        Operation::Add,
-        Val::Num(GREATEST),
-        Val::Num(-GREATEST),
-        Val::Num(0),
-    ),
-    (
-        Operation::Add,
-        Val::Num(-GREATEST),
-        Val::Num(-GREATEST),
-        Val::Num(-GREATEST),
-    ),
     (Operation::Add, NONE, Val::Num(1), NONE),
     (Operation::Add, Val::Num(1), NONE, NONE),
-    (Operation::Add, NONE, NONE, NONE),
     (
         Operation::Add,
         Val::Num(BELOW),
         Val::Num(0),
         Val::Num(-GREATEST),
     ),
-    (
-        Operation::Add,
-        Val::Num(BELOW),
-        Val::Num(GREATEST),
-        Val::Num(-1),
-    ),
     (Operation::Subtract, Val::Num(2), Val::Num(3), Val::Num(-1)),
-    (
-        Operation::Subtract,
-        Val::Num(GREATEST),
-        Val::Num(-1),
-        Val::Num(GREATEST),
-    ),
     (
         Operation::Subtract,
         Val::Num(-GREATEST),
@@ -95,21 +70,14 @@ const SUMS: [Row; 17] = [
     ),
     (
         Operation::Subtract,
-        Val::Num(-GREATEST),
-        Val::Num(-GREATEST),
-        Val::Num(0),
-    ),
-    (
-        Operation::Subtract,
         Val::Num(0),
         Val::Num(BELOW),
         Val::Num(GREATEST),
     ),
-    (Operation::Subtract, NONE, Val::Num(1), NONE),
     (Operation::Subtract, Val::Num(1), NONE, NONE),
 ];
 
-const PRODUCTS: [Row; 28] = [
+const PRODUCTS: [Row; 14] = [
     (
         Operation::Multiply,
         Val::Num(6),
@@ -119,31 +87,13 @@ const PRODUCTS: [Row; 28] = [
     (
         Operation::Multiply,
         Val::Num(GREATEST),
-        Val::Num(2),
-        Val::Num(GREATEST),
-    ),
-    (
-        Operation::Multiply,
-        Val::Num(GREATEST),
         Val::Num(-2),
         Val::Num(-GREATEST),
     ),
     (
         Operation::Multiply,
-        Val::Num(-GREATEST),
-        Val::Num(-GREATEST),
-        Val::Num(GREATEST),
-    ),
-    (
-        Operation::Multiply,
         Val::Num(4294967296),
         Val::Num(4294967296),
-        Val::Num(GREATEST),
-    ),
-    (
-        Operation::Multiply,
-        Val::Num(3037000500),
-        Val::Num(3037000500),
         Val::Num(GREATEST),
     ),
     (
@@ -154,43 +104,17 @@ const PRODUCTS: [Row; 28] = [
     ),
     (
         Operation::Multiply,
-        Val::Num(0),
-        Val::Num(-GREATEST),
-        Val::Num(0),
-    ),
-    (
-        Operation::Multiply,
-        Val::Num(BELOW),
-        Val::Num(-1),
-        Val::Num(GREATEST),
-    ),
-    (
-        Operation::Multiply,
         Val::Num(BELOW),
         Val::Num(1),
         Val::Num(-GREATEST),
     ),
     (Operation::Multiply, NONE, Val::Num(0), NONE),
-    (Operation::Multiply, Val::Num(0), NONE, NONE),
     (Operation::Divide, Val::Num(7), Val::Num(2), Val::Num(3)),
     (Operation::Divide, Val::Num(-7), Val::Num(2), Val::Num(-3)),
     (Operation::Divide, Val::Num(7), Val::Num(-2), Val::Num(-3)),
-    (Operation::Divide, Val::Num(-7), Val::Num(-2), Val::Num(3)),
     (Operation::Divide, Val::Num(-1), Val::Num(2), Val::Num(0)),
     (
         Operation::Divide,
-        Val::Num(GREATEST),
-        Val::Num(-1),
-        Val::Num(-GREATEST),
-    ),
-    (
-        Operation::Divide,
-        Val::Num(-GREATEST),
-        Val::Num(-1),
-        Val::Num(GREATEST),
-    ),
-    (
-        Operation::Divide,
         Val::Num(BELOW),
         Val::Num(-1),
         Val::Num(GREATEST),
@@ -200,60 +124,23 @@ const PRODUCTS: [Row; 28] = [
         Val::Num(BELOW),
         Val::Num(1),
         Val::Num(-GREATEST),
-    ),
-    (
-        Operation::Divide,
-        Val::Num(GREATEST),
-        Val::Num(GREATEST),
-        Val::Num(1),
-    ),
-    (
-        Operation::Divide,
-        Val::Num(-GREATEST),
-        Val::Num(GREATEST),
-        Val::Num(-1),
     ),
     (Operation::Divide, Val::Num(5), Val::Num(0), NONE),
-    (Operation::Divide, Val::Num(0), Val::Num(0), NONE),
     (Operation::Divide, NONE, Val::Num(0), NONE),
-    (Operation::Divide, Val::Num(0), NONE, NONE),
-    (Operation::Divide, NONE, Val::Num(2), NONE),
 ];
 
-const CHOICES: [Row; 26] = [
-    (Operation::Least, Val::Num(2), Val::Num(3), Val::Num(2)),
+const CHOICES: [Row; 16] = [
     (Operation::Least, Val::Num(3), Val::Num(-2), Val::Num(-2)),
     (Operation::Least, NONE, Val::Num(4), Val::Num(4)),
     (Operation::Least, Val::Num(4), NONE, Val::Num(4)),
     (Operation::Least, NONE, NONE, NONE),
-    (
-        Operation::Least,
-        Val::Num(GREATEST),
-        Val::Num(-GREATEST),
-        Val::Num(-GREATEST),
-    ),
-    (
-        Operation::Least,
-        Val::Num(BELOW),
-        Val::Num(0),
-        Val::Num(-GREATEST),
-    ),
     (Operation::Least, Val::Num(BELOW), NONE, Val::Num(-GREATEST)),
-    (Operation::Most, Val::Num(2), Val::Num(3), Val::Num(3)),
     (Operation::Most, Val::Num(-2), Val::Num(-3), Val::Num(-2)),
     (Operation::Most, NONE, Val::Num(-4), Val::Num(-4)),
     (Operation::Most, Val::Num(-4), NONE, Val::Num(-4)),
-    (Operation::Most, NONE, NONE, NONE),
-    (
-        Operation::Most,
-        Val::Num(GREATEST),
-        Val::Num(-GREATEST),
-        Val::Num(GREATEST),
-    ),
     (Operation::Most, Val::Num(BELOW), NONE, Val::Num(-GREATEST)),
     (Operation::Else, Val::Num(1), Val::Num(2), Val::Num(1)),
     (Operation::Else, NONE, Val::Num(2), Val::Num(2)),
-    (Operation::Else, Val::Num(1), NONE, Val::Num(1)),
     (Operation::Else, NONE, NONE, NONE),
     (
         Operation::Else,
@@ -263,56 +150,25 @@ const CHOICES: [Row; 26] = [
     ),
     (Operation::Minus, Val::Num(5), NONE, Val::Num(-5)),
     (Operation::Minus, NONE, Val::Num(5), NONE),
-    (
-        Operation::Minus,
-        Val::Num(GREATEST),
-        NONE,
-        Val::Num(-GREATEST),
-    ),
-    (
-        Operation::Minus,
-        Val::Num(-GREATEST),
-        NONE,
-        Val::Num(GREATEST),
-    ),
     (Operation::Minus, Val::Num(BELOW), NONE, Val::Num(GREATEST)),
-    (Operation::Minus, Val::Num(0), NONE, Val::Num(0)),
 ];
 
-const COMPARISONS: [Row; 28] = [
+const COMPARISONS: [Row; 15] = [
     (Operation::Equal, Val::Num(2), Val::Num(2), Val::Num(1)),
-    (Operation::Equal, Val::Num(2), Val::Num(3), Val::Num(0)),
     (Operation::Equal, NONE, NONE, Val::Num(0)),
-    (Operation::Equal, NONE, Val::Num(1), Val::Num(0)),
-    (Operation::Equal, Val::Num(1), NONE, Val::Num(0)),
     (Operation::Unequal, Val::Num(2), Val::Num(3), Val::Num(1)),
-    (Operation::Unequal, Val::Num(2), Val::Num(2), Val::Num(0)),
-    (Operation::Unequal, NONE, NONE, Val::Num(0)),
     (Operation::Unequal, NONE, Val::Num(1), Val::Num(0)),
-    (Operation::Unequal, Val::Num(1), NONE, Val::Num(0)),
     (Operation::Less, Val::Num(1), Val::Num(2), Val::Num(1)),
     (Operation::Less, Val::Num(2), Val::Num(2), Val::Num(0)),
-    (
-        Operation::Less,
-        Val::Num(-GREATEST),
-        Val::Num(GREATEST),
-        Val::Num(1),
-    ),
     (Operation::Less, NONE, Val::Num(1), Val::Num(0)),
-    (Operation::Less, Val::Num(1), NONE, Val::Num(0)),
     (Operation::AtMost, Val::Num(2), Val::Num(2), Val::Num(1)),
     (Operation::AtMost, Val::Num(3), Val::Num(2), Val::Num(0)),
-    (Operation::AtMost, NONE, NONE, Val::Num(0)),
     (Operation::More, Val::Num(2), Val::Num(1), Val::Num(1)),
-    (Operation::More, Val::Num(2), Val::Num(2), Val::Num(0)),
     (Operation::More, Val::Num(1), NONE, Val::Num(0)),
-    (Operation::More, NONE, Val::Num(1), Val::Num(0)),
     (Operation::AtLeast, Val::Num(2), Val::Num(2), Val::Num(1)),
-    (Operation::AtLeast, Val::Num(1), Val::Num(2), Val::Num(0)),
     (Operation::AtLeast, NONE, NONE, Val::Num(0)),
     (Operation::IsNone, NONE, Val::Num(0), Val::Num(1)),
     (Operation::IsNone, Val::Num(0), NONE, Val::Num(0)),
-    (Operation::IsNone, Val::Num(-GREATEST), NONE, Val::Num(0)),
 ];
 
 fn operand(value: Val) -> Expr {
@@ -408,35 +264,11 @@ fn have_values(rt: &impl Abort, alloc: Global, rows: &[Row]) -> Result<(), Fail>
 }
 
 #[test]
-fn sums_and_differences(rt: HostRuntime) -> Result<(), Fail> {
-    have_values(&rt, rt.alloc(), &SUMS)
-}
-
-#[test]
-fn products_and_quotients(rt: HostRuntime) -> Result<(), Fail> {
-    have_values(&rt, rt.alloc(), &PRODUCTS)
-}
-
-#[test]
-fn choices_and_negations(rt: HostRuntime) -> Result<(), Fail> {
-    have_values(&rt, rt.alloc(), &CHOICES)
-}
-
-#[test]
-fn comparisons(rt: HostRuntime) -> Result<(), Fail> {
+fn operations(rt: HostRuntime) -> Result<(), Fail> {
+    have_values(&rt, rt.alloc(), &SUMS)?;
+    have_values(&rt, rt.alloc(), &PRODUCTS)?;
+    have_values(&rt, rt.alloc(), &CHOICES)?;
     have_values(&rt, rt.alloc(), &COMPARISONS)
-}
-
-#[test]
-fn words(rt: HostRuntime) {
-    assert_eq!(rt; value(&Expr::Id), Val::Num(9));
-    assert_eq!(rt; value(&Expr::Start), Val::Num(1));
-    assert_eq!(rt; value(&Expr::Value), Val::Num(2));
-    assert_eq!(rt; value(&Expr::Gathered), Val::Num(3));
-    assert_eq!(rt; value(&Expr::Count), Val::Num(4));
-    assert_eq!(rt; value(&Expr::Outdeg), Val::Num(5));
-    assert_eq!(rt; value(&Expr::NodeProp(0)), Val::Nil);
-    assert_eq!(rt; value(&Expr::EdgeProp(0)), Val::Nil);
 }
 
 // A chain of three: sums (true) and differences where `adds` is set, and else products (true) and quotients.
@@ -461,7 +293,7 @@ fn three(
 }
 
 // Each chain is computed from the left, and each step is clamped.
-const CHAINS: [(bool, (bool, bool), i64, i64, i64, Val); 7] = [
+const CHAINS: [(bool, (bool, bool), i64, i64, i64, Val); 4] = [
     (
         true,
         (true, false),
@@ -470,25 +302,8 @@ const CHAINS: [(bool, (bool, bool), i64, i64, i64, Val); 7] = [
         1,
         Val::Num(9_223_372_036_854_775_806),
     ),
-    (
-        true,
-        (false, true),
-        -GREATEST,
-        1,
-        1,
-        Val::Num(-9_223_372_036_854_775_806),
-    ),
     (true, (false, false), 10, 3, 4, Val::Num(3)),
     (false, (false, true), 7, 2, 2, Val::Num(6)),
-    (false, (true, false), 5, 3, 2, Val::Num(7)),
-    (
-        false,
-        (true, false),
-        GREATEST,
-        2,
-        2,
-        Val::Num(4_611_686_018_427_387_903),
-    ),
     (false, (false, true), 3, 0, 0, Val::Nil),
 ];
 

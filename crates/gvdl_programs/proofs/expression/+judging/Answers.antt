@@ -197,8 +197,8 @@ expression-returns-in_ok-second-in-If t c =
 
 pub expression-returns-in-Number : goal.expression-returns-in-Number
 expression-returns-in-Number t c =
-    let fits : FitsSigned w64 c.number_of.result = search rules in
-    ap (expression c.args.graph.now c.args.part c.args.parameters.now) c.in-Number.is ∙ expression-Number c.args.graph.now c.args.part c.args.parameters.now c.in-Number.number ∙ ap (λ (z : ℤ). Ok (template.Number z)) (sym (to_z-of_z w64 c.number_of.result fits ∙ c.number_of.ensures))
+    let fits : FitsSigned w64 c.clamped_number.result = search rules in
+    ap (expression c.args.graph.now c.args.part c.args.parameters.now) c.in-Number.is ∙ expression-Number c.args.graph.now c.args.part c.args.parameters.now c.in-Number.number ∙ ap (λ (z : ℤ). Ok (template.Number z)) (sym (to_z-of_z w64 c.clamped_number.result fits ∙ c.clamped_number.ensures))
 
 pub expression-returns-in-Nil : goal.expression-returns-in-Nil
 expression-returns-in-Nil t c =

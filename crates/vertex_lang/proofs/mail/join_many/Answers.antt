@@ -1,5 +1,5 @@
 use Rattle.std.proofs.Common.{◌∙◌, sym}
-use Rattle.vertex_lang.proofs.Extremes.{extreme_repeated}
+use Rattle.vertex_lang.proofs.Repeats.{extreme_repeated}
 use Rattle.vertex_lang.proofs.mail.join_many.Goals as goal
 
 pub returns-then-times-gt0 : goal.returns-then-times-gt0

@@ -1,8 +1,0 @@
-use Rattle.std.proofs.Common.{◌≡◌, map, drop}
-use Rattle.gvdl_programs.specs.Judging.{each}
-use Rattle.gvdl_programs.specs.Calls.{number_of}
-use Rattle.gvdl_programs.specs.Turns.{behind}
-use Rattle.gvdl_programs.proofs.arguments.numbers_of.Given as goal
-
-abbrev pub invariant-loop-arg : goal.invariant-loop-arg
-invariant-loop-arg l = each (map number_of l.args) ≡ behind l.numbers (each (map number_of (drop l.arg-index l.args)))

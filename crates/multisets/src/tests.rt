@@ -1,0 +1,3 @@
+//! Tests of lists as multisets.
+
+mod compare;

@@ -1,0 +1,25 @@
+use Rattle.std.proofs.Common.{◌≡◌, ◌∙◌, ◌+◌, ap, sym, arith}
+use Rattle.vertex_lang.specs.Rounds.{lone, next}
+use Rattle.vertex_lang.specs.RoundLaws.{lone_starts, lone_next}
+use Rattle.vertex_lang.proofs.setting.Setting.run_for.Goals as goal
+
+pub loop-round-init : goal.loop-round-init
+loop-round-init g c = record {
+  sizes = c.requires.sizes;
+  values = c.requires.values ∙ c.args.self.now.fits.started ∙ sym (lone_starts g.U.Updater.answer c.args.self.now.program.now c.args.self.now.graph.now c.args.self.now.arcs.now);
+  calls = omega arith;
+}
+
+pub loop-round-preserved : goal.loop-round-preserved
+loop-round-preserved g c =
+    let answer = g.U.Updater.answer in
+    let p = c.args.self.now.program.now in
+    let graph = c.args.self.now.graph.now in
+    let arcs = c.args.self.now.arcs.now in
+    let r = c.loop-round._round in
+    let later : c.advance.new.lists.values.items ≡ lone answer p graph arcs (r + 1) = c.advance.ensures.values ∙ ap (next answer p graph arcs) c.loop-round.invariant.values ∙ sym (lone_next answer p graph arcs r) in
+    record {
+      sizes = c.advance.ensures.sizes;
+      values = later;
+      calls = omega (arith, c.advance.ensures.calls, c.loop-round.invariant.calls);
+    }
