@@ -7,7 +7,7 @@ use std::marker::Brand;
 use std::process::ExitCode;
 use std::sync::ledger::{Blank, Ledger};
 use std::{env, io};
-use surge_cli::{Status, surge};
+use surge_cli::{Status, refuse_words, surge};
 use surge_outside::{DiskFiles, StdSink, Steps};
 
 fn words(rt: &HostRuntime) -> io::Result<Vec<String>> {
@@ -33,11 +33,9 @@ fn run<L: Ledger>(rt: HostRuntime, blank: Blank, words: &[String]) -> Status
 }
 
 fn main(rt: HostRuntime) -> ExitCode {
-    match words(&rt) {
-        Ok(words) => {
-            let status = run::<Brand>(rt, Blank::new(1), words.as_slice());
-            ExitCode::from(status.number())
-        }
-        Err(_) => ExitCode::from(Status::NoMemory.number()),
-    }
+    let status = match words(&rt) {
+        Ok(words) => run::<Brand>(rt, Blank::new(1), words.as_slice()),
+        Err(error) => refuse_words(rt.alloc(), &error, &mut StdSink::new(rt.stderr())),
+    };
+    ExitCode::from(status.number())
 }

@@ -1,6 +1,6 @@
 -- How a run ends: what was printed, and what was reported.
 use Rattle.std.proofs.Common.{◌≡◌, ◌∙◌, ℕ, List, length, Option, Some, None, Result, Ok, Err, refl, sym, ap, subst, arith, inl, inr}
-use Rattle.std.specs.Prelude.{IfSome, IfErr, ◌⊎◌}
+use Rattle.std.specs.Prelude.{IfErr, ◌⊎◌}
 use Rattle.std.proofs.lemmas.List.{take_all}
 use Rattle.surge_outside.specs.Counts.{HasRisen}
 use Rattle.surge_outside.specs.Written.{appended, GrewByFront}
@@ -8,22 +8,26 @@ use Rattle.vertex_lang.specs.Expressions.{Answer}
 use Rattle.surge_cli.specs.declared.status.Unbuilt.TheVariants as unbuilt
 use Rattle.surge_cli.specs.declared.status.Status.{Status}
 use Rattle.surge_cli.specs.declared.status.Status.TheVariants as status
+use Rattle.surge_cli.specs.declared.words.Task.{Task}
 use Rattle.surge_cli.specs.declared.words.Asked.{Asked}
+use Rattle.surge_cli.specs.declared.words.CommandLine.{CommandLine}
+use Rattle.surge_cli.specs.declared.words.CommandLine.TheVariants as line
 use Rattle.surge_cli.specs.declared.job.Job.{Job}
 use Rattle.surge_cli.specs.StatusText.{status_line}
-use Rattle.surge_cli.specs.Words.{script_asked}
+use Rattle.surge_cli.specs.Words.{command_line}
 use Rattle.surge_cli.specs.Output.{output}
 use Rattle.surge_cli.specs.Expected.{Held, Expects}
-use Rattle.surge_cli.specs.Stages.{MeetsHeld, IsStop, IsLater, IsStage, IsInner, RisesBefore, IsNamed, StopsWords}
-use Rattle.surge_cli.specs.Answers.{Written, Answers, OfWords, Reports}
+use Rattle.surge_cli.specs.Headline.{Written, AsksFor, IsDue, Means}
+use Rattle.surge_cli.specs.Causes.{IsLater, OfWords, NamesNone, Reports}
+use Rattle.surge_cli.specs.Stages.{IsExpectedOf, IsStop, IsStage, IsInner, StopsWords}
 use Rattle.surge_cli.proofs.Written.{nothing_appended}
 
--- ---- the line of an answer
+-- ---- the line of a status
 
 whole_front : (old new : Written) (line : List ℕ) → new ≡ appended old line → GrewByFront old new line
 whole_front old new line e = (length line, omega arith, e ∙ ap (λ (x : List ℕ). appended old x) (sym (take_all (length line) line (omega arith))))
 
--- the line of an answer was written
+-- the line of a status was written
 pub reported : (s : Status) (old new : Written) (f g : ℕ) → (s ≡ status.Done → ⊥) → new ≡ appended old (status_line s) → Reports s old new f g
 reported status.Done old new f g n e = absurd (n refl)
 reported status.NoMemory old new f g n e = (status.NoMemory, whole_front old new (status_line status.NoMemory) e)
@@ -53,16 +57,16 @@ unreported old f g = (status.NoMemory, (0, omega arith, nothing_appended old))
 
 -- ---- the words
 
-no_memory : (asked : Option (Option Asked)) → OfWords asked status.NoMemory
-no_memory None = inr refl
-no_memory (Some None) = inr refl
-no_memory (Some (Some asked)) = tt
+no_memory : (asked : CommandLine) → OfWords asked status.NoMemory
+no_memory line.NotOfForm = inr refl
+no_memory line.NotBuilt = inr refl
+no_memory (line.Asked asked) = tt
 
--- an answer that does not come from the words is one to words that name a script
-pub named_words : (asked : Option (Option Asked)) (s : Status) → IsNamed asked → IsLater s → OfWords asked s
-named_words None s named later = absurd named
-named_words (Some None) s named later = absurd named
-named_words (Some (Some asked)) s named later = later
+-- a status that does not come from the words is one to words that name a script
+pub named_words : (asked : CommandLine) (task : Task) (s : Status) → AsksFor asked task → IsLater s → OfWords asked s
+named_words line.NotOfForm task s named later = absurd named
+named_words line.NotBuilt task s named later = absurd named
+named_words (line.Asked asked) task s named later = later
 
 stage_later : (s : Status) → IsStage s → IsLater s
 stage_later status.Done h = absurd h
@@ -90,29 +94,14 @@ inner_stage status.NoMemory h = tt
 inner_stage (status.NotBuilt unbuilt.Words) h = absurd h
 inner_stage (status.NotBuilt (unbuilt.Statement n)) h = tt
 
-inner_rises : (s : Status) (a b f g : ℕ) → IsInner s → RisesBefore s a b f g
-inner_rises status.Done a b f g h = tt
-inner_rises status.Usage a b f g h = tt
-inner_rises (status.Absent role) a b f g h = absurd h
-inner_rises (status.Data fault) a b f g h = tt
-inner_rises (status.Script fault) a b f g h = tt
-inner_rises status.ReadFault a b f g h = absurd h
-inner_rises status.WriteFault a b f g h = tt
-inner_rises status.NoMemory a b f g h = tt
-inner_rises (status.NotBuilt what) a b f g h = tt
-
 pub inner_stages : {A : Type 0} (r : Result A Status) → IfErr r IsInner → IfErr r IsStage
 inner_stages (Ok a) h = h
 inner_stages (Err s) h = inner_stage s h
 
-pub inner_counts : {A : Type 0} (r : Result A Status) (a b f g : ℕ) → IfErr r IsInner → IfErr r (λ s. RisesBefore s a b f g)
-inner_counts (Ok x) a b f g h = h
-inner_counts (Err s) a b f g h = inner_rises s a b f g h
-
 -- ---- from the stages to the words
 
-pub stage_words : (asked : Option (Option Asked)) (s : Status) → IsNamed asked → IsStage s → OfWords asked s
-stage_words asked s named stage = named_words asked s named (stage_later s stage)
+pub stage_words : (asked : CommandLine) (task : Task) (s : Status) → AsksFor asked task → IsStage s → OfWords asked s
+stage_words asked task s named stage = named_words asked task s named (stage_later s stage)
 
 pub stage_stops : (s : Status) → IsStage s → IsStop s
 stage_stops status.Done h = absurd h
@@ -136,33 +125,57 @@ words_stops words status.WriteFault h = absurd h
 words_stops words status.NoMemory h = tt
 words_stops words (status.NotBuilt what) h = tt
 
-pub words_told : (words : List (List ℕ)) (s : Status) → StopsWords words s → OfWords (script_asked words) s
+pub words_told : (words : List (List ℕ)) (s : Status) → StopsWords words s → OfWords (command_line words) s
 words_told words status.Done h = absurd h
-words_told words status.Usage h = subst (λ (a : Option (Option Asked)). OfWords a status.Usage) (sym h) (inl refl)
+words_told words status.Usage h = subst (λ (a : CommandLine). OfWords a status.Usage) (sym h) (inl refl)
 words_told words (status.Absent role) h = absurd h
 words_told words (status.Data fault) h = absurd h
 words_told words (status.Script fault) h = absurd h
 words_told words status.ReadFault h = absurd h
 words_told words status.WriteFault h = absurd h
-words_told words status.NoMemory h = no_memory (script_asked words)
-words_told words (status.NotBuilt unbuilt.Words) h = subst (λ (a : Option (Option Asked)). OfWords a (status.NotBuilt unbuilt.Words)) (sym h) (inl refl)
+words_told words status.NoMemory h = no_memory (command_line words)
+words_told words (status.NotBuilt unbuilt.Words) h = subst (λ (a : CommandLine). OfWords a (status.NotBuilt unbuilt.Words)) (sym h) (inl refl)
 words_told words (status.NotBuilt (unbuilt.Statement n)) h = absurd h
 
--- the same of what is answered once the line was written
-pub reported_words : (asked : Option (Option Asked)) (s r : Status) → (r ≡ s) ⊎ ((r ≡ status.NoMemory) × (s ≡ status.Done → ⊥)) → OfWords asked s → OfWords asked r
+-- the same of the status once its line was written
+pub reported_words : (asked : CommandLine) (s r : Status) → (r ≡ s) ⊎ ((r ≡ status.NoMemory) × (s ≡ status.Done → ⊥)) → OfWords asked s → OfWords asked r
 reported_words asked s r (inl is) h = subst (λ (x : Status). OfWords asked x) (sym is) h
 reported_words asked s r (inr is) h = subst (λ (x : Status). OfWords asked x) (sym is.0) (no_memory asked)
 
+-- words that name a script ask for its task
+pub asks_for : (words : List (List ℕ)) (asked : Asked) (task : Task) → command_line words ≡ line.Asked asked → asked.task ≡ task → AsksFor (command_line words) task
+asks_for words asked task is same = subst (λ (a : CommandLine). AsksFor a task) (sym is) same
+
+-- and so they are not without a script
+pub not_none : {A : Type 0} (words : List (List ℕ)) (asked : Asked) → command_line words ≡ line.Asked asked → NamesNone (command_line words) → A
+not_none words asked is none = absurd (subst (λ (a : CommandLine). NamesNone a) is none)
+
 -- ---- the output
 
-pub prints : (answer : Answer) (held : Option Held) (words : List (List ℕ)) (job : Job) (old new : Written) → MeetsHeld held (λ files. Expects files words) (Ok job) → new ≡ appended old (output answer job) → IfSome held (λ files. Answers answer files words status.Done old new)
-prints answer None words job old new h e = tt
-prints answer (Some files) words job old new h e = record { job = job; expected = h; printed = e }
+is_due : (held : Option Held) (words : List (List ℕ)) (job : Job) → IsExpectedOf held (λ files. Expects files words) (Ok job) → AsksFor (command_line words) job.task → IsDue held words job
+is_due None words job h task = task
+is_due (Some files) words job h task = h
 
-pub prints_front : (answer : Answer) (held : Option Held) (words : List (List ℕ)) (job : Job) (old new : Written) → MeetsHeld held (λ files. Expects files words) (Ok job) → GrewByFront old new (output answer job) → IfSome held (λ files. Answers answer files words status.WriteFault old new)
-prints_front answer None words job old new h e = tt
-prints_front answer (Some files) words job old new h e = record { job = job; expected = h; printed = e }
+pub prints : (answer : Answer) (held : Option Held) (words : List (List ℕ)) (job : Job) (old new : Written) → IsExpectedOf held (λ files. Expects files words) (Ok job) → AsksFor (command_line words) job.task → new ≡ appended old (output answer job) → Means answer held words status.Done old new
+prints answer held words job old new h task e = record { job = job; due = is_due held words job h task; printed = e }
 
-pub lacks_memory : (answer : Answer) (held : Option Held) (words : List (List ℕ)) (job : Job) (old new : Written) → MeetsHeld held (λ files. Expects files words) (Ok job) → GrewByFront old new (output answer job) → IfSome held (λ files. Answers answer files words status.NoMemory old new)
-lacks_memory answer None words job old new h e = tt
-lacks_memory answer (Some files) words job old new h e = inr (record { job = job; expected = h; printed = e })
+pub prints_front : (answer : Answer) (held : Option Held) (words : List (List ℕ)) (job : Job) (old new : Written) → IsExpectedOf held (λ files. Expects files words) (Ok job) → AsksFor (command_line words) job.task → GrewByFront old new (output answer job) → Means answer held words status.WriteFault old new
+prints_front answer held words job old new h task e = record { job = job; due = is_due held words job h task; printed = e }
+
+pub lacks_memory : (answer : Answer) (held : Option Held) (words : List (List ℕ)) (job : Job) (old new : Written) → IsExpectedOf held (λ files. Expects files words) (Ok job) → AsksFor (command_line words) job.task → GrewByFront old new (output answer job) → Means answer held words status.NoMemory old new
+lacks_memory answer held words job old new h task e = inr (record { job = job; due = is_due held words job h task; printed = e })
+
+-- the same of the status once its line was written
+pub reported_means : (answer : Answer) (held : Option Held) (words : List (List ℕ)) (s r : Status) (old new : Written) → (r ≡ s) ⊎ ((r ≡ status.NoMemory) × (s ≡ status.Done → ⊥)) → Means answer held words s old new → Means answer held words r old new
+reported_means answer held words s r old new (inl is) h = subst (λ (x : Status). Means answer held words x old new) (sym is) h
+reported_means answer held words s r old new (inr is) h = subst (λ (x : Status). Means answer held words x old new) (sym is.0) (without s is.1 h) where
+  without : (t : Status) → (t ≡ status.Done → ⊥) → Means answer held words t old new → Means answer held words status.NoMemory old new
+  without status.Done n k = absurd (n refl)
+  without status.Usage n k = inl k.1
+  without (status.Absent role) n k = inl k.1
+  without (status.Data fault) n k = inl k.1
+  without (status.Script fault) n k = inl k.1
+  without status.ReadFault n k = inl k
+  without status.WriteFault n k = inr k
+  without status.NoMemory n k = k
+  without (status.NotBuilt what) n k = inl k.1

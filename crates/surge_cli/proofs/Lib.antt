@@ -4,8 +4,11 @@ pub mod Growing
 pub mod ViewEdges
 pub mod Written
 pub mod Runs
+pub mod GoingOn
+pub mod Reaching
 pub mod Fetching
-pub mod Telling
-pub mod Meeting
+pub mod Planning
+pub mod Saying
+pub mod Expecting
 pub mod Endings
 pub mod Deciding

@@ -1,5 +1,5 @@
 -- What is expected of the program over files that are told: what is to be done, or the refusal. The first refusal in this
--- order is the answer: the words; the script fetched, and read; the nodes fetched; the edges fetched; the nodes and then
+-- order is the status: the words; the script fetched, and read; the nodes fetched; the edges fetched; the nodes and then
 -- the edges read; the script checked against its graph.
 use Rattle.std.specs.Prelude.{◌≡◌, ◌⊎◌, ℕ, nat_lt, List, length, if◌then◌else◌, Option, Some, None, Result, Ok, Err}
 use Rattle.surge_outside.specs.Held.{file_at}
@@ -23,9 +23,10 @@ use Rattle.surge_cli.specs.declared.status.Unbuilt.TheVariants as unbuilt
 use Rattle.surge_cli.specs.declared.status.Status.{Status}
 use Rattle.surge_cli.specs.declared.status.Status.TheVariants as status
 use Rattle.surge_cli.specs.declared.words.Task.{Task}
-use Rattle.surge_cli.specs.declared.words.Asked.{Asked}
+use Rattle.surge_cli.specs.declared.words.CommandLine.{CommandLine}
+use Rattle.surge_cli.specs.declared.words.CommandLine.TheVariants as line
 use Rattle.surge_cli.specs.declared.job.Job.{Job}
-use Rattle.surge_cli.specs.Words.{script_asked}
+use Rattle.surge_cli.specs.Words.{command_line}
 
 -- the files that are held, by name
 abbrev pub Held : Type 0
@@ -57,7 +58,7 @@ limit_of role.Edges = data_limit
 abbrev pub too_large : DataFile → DataFault
 too_large file = record { file = file; row = 0; column = 0; kind = wrong.TooLarge }
 
--- the answer to a file of more bytes than its limit
+-- the refusal of a file of more bytes than its limit
 abbrev pub large_of : FileRole → Status
 large_of role.Script = status.Script script_fault.TooLarge
 large_of role.Nodes = status.Data (too_large file.Nodes)
@@ -124,14 +125,14 @@ ExpectsOfFile held task (Err s) e = e ≡ Err s
 -- ---- the words
 
 -- of words that are not of the form, of words that ask for what is not built yet, and of words that name a script
-abbrev pub ExpectsAsked : Held → Option (Option Asked) → Expectation → Type 0
-ExpectsAsked held None e = e ≡ Err status.Usage
-ExpectsAsked held (Some None) e = e ≡ Err (status.NotBuilt unbuilt.Words)
-ExpectsAsked held (Some (Some asked)) e = ExpectsOfFile held asked.task (fetched held role.Script asked.script) e
+abbrev pub ExpectsAsked : Held → CommandLine → Expectation → Type 0
+ExpectsAsked held line.NotOfForm e = e ≡ Err status.Usage
+ExpectsAsked held line.NotBuilt e = e ≡ Err (status.NotBuilt unbuilt.Words)
+ExpectsAsked held (line.Asked asked) e = ExpectsOfFile held asked.task (fetched held role.Script asked.script) e
 
 -- what is expected of the program, given these files and these words
 abbrev pub Expects : Held → List (List ℕ) → Expectation → Type 0
-Expects held words e = ExpectsAsked held (script_asked words) e
+Expects held words e = ExpectsAsked held (command_line words) e
 
 -- this is expected, and nothing else is
 pub record IsOnly (expects : Expectation → Type 0) (e : Expectation) : Type 0 where

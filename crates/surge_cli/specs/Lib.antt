@@ -1,3 +1,4 @@
+pub mod FilesState
 pub mod Words
 pub mod Reading
 pub mod ReadingAnswer
@@ -5,5 +6,7 @@ pub mod TableText
 pub mod Output
 pub mod StatusText
 pub mod Expected
+pub mod Headline
+pub mod Reaches
+pub mod Causes
 pub mod Stages
-pub mod Answers

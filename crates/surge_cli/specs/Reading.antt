@@ -1,4 +1,4 @@
--- What reading a whole file gives.
+-- Internal: what reading a whole file gives.
 use Rattle.std.specs.Prelude.{◌≡◌, ◌<◌, ℕ, List, [], ◌++◌, length, Option, Some, None}
 use Rattle.surge_outside.specs.Held.{file_at}
 

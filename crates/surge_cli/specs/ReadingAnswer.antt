@@ -1,4 +1,4 @@
--- What reading a whole file up to a limit answers, and each piece on the way.
+-- Internal: what reading a whole file up to a limit answers, and each piece on the way.
 use Rattle.std.specs.Prelude.{◌≤◌, ℕ, List, length, Option, Some, None}
 use Rattle.surge_cli.specs.Reading.{Told, IsLonger, IsToldFront}
 use Rattle.surge_cli.specs.declared.reading.Reading.{Reading}

@@ -15,6 +15,8 @@ use Rattle.surge_cli.specs.declared.words.Request.{Request}
 use Rattle.surge_cli.specs.declared.words.Task.{Task}
 use Rattle.surge_cli.specs.declared.words.Task.TheVariants as task
 use Rattle.surge_cli.specs.declared.words.Asked.{Asked}
+use Rattle.surge_cli.specs.declared.words.CommandLine.{CommandLine}
+use Rattle.surge_cli.specs.declared.words.CommandLine.TheVariants as line
 
 -- ---- the command, as `clap` sees it
 
@@ -90,17 +92,20 @@ request_of words = option_and_then request_from (matched words)
 abbrev pub asked_for : List ℕ → Task → Asked
 asked_for name what = record { script = name; task = what }
 
--- the script that a request asks for, and what is done of it, where requests of its kind are built: so far without the
+-- what a request comes to: a script and what is done of it, where requests of its kind are built: so far without the
 -- sample, turns and the summary
-abbrev pub asked_by : Source → Mode → Option ℕ → Option Asked
-asked_by (source.Script name) mode.Run None = Some (asked_for name task.Run)
-asked_by (source.Script name) mode.Check None = Some (asked_for name task.Check)
-asked_by _ _ _ = None
+abbrev pub asked_by : Source → Mode → Option ℕ → CommandLine
+asked_by (source.Script name) mode.Run None = line.Asked (asked_for name task.Run)
+asked_by (source.Script name) mode.Check None = line.Asked (asked_for name task.Check)
+asked_by _ _ _ = line.NotBuilt
 
-abbrev pub asked_of : Request → Option Asked
+abbrev pub asked_of : Request → CommandLine
 asked_of request = asked_by request.source request.mode request.turns
 
--- the script that the words ask for: none where they are not of the form, and none inside where they ask for what is not
--- built yet
-unfoldable pub script_asked : List (List ℕ) → Option (Option Asked)
-script_asked words = option_map asked_of (request_of words)
+abbrev pub line_of : Option Request → CommandLine
+line_of None = line.NotOfForm
+line_of (Some request) = asked_of request
+
+-- what the words of the command line come to
+unfoldable pub command_line : List (List ℕ) → CommandLine
+command_line words = line_of (request_of words)

@@ -5,12 +5,14 @@
 //! the program (`surge_outside`) and on `clap`, which reads the words. Its public call is [`surge`], which the program's
 //! `main` makes with the real ends. Inside, in the order of the walk: the words, whole files within their limits, the
 //! stages up to a plan over a graph, the text of tables, the session that makes each run alone on each view, and the line
-//! of an answer. Its promise is the headline, in `specs/Answers.antt`: where the files tell their bytes and the answer is
+//! of a status. Its promise is the headline, in `specs/Headline.antt`: where the files tell their bytes and the status is
 //! [`Status::Done`], what was written is exactly the tables of the lone runs over the edges of each view, statement by
-//! statement (`specs/Output.antt`), and every other answer has its cause (`specs/Expected.antt`).
+//! statement (`specs/Output.antt`), and every other status is the one that is expected (`specs/Expected.antt`) or has its
+//! cause (`specs/Causes.antt`), that of a file only where the file was reached (`specs/Reaches.antt`).
 #![tactic(auto)]
 
 mod job;
+mod named_files;
 mod reading;
 mod running;
 mod script_line;
@@ -22,5 +24,6 @@ mod words;
 
 pub use graph_loader::{DataFault, DataFile, DataKind};
 pub use gvdl_parser::ScriptFault;
-pub use running::surge;
+pub use named_files::NamedFiles;
+pub use running::{refuse_words, surge};
 pub use status::{FileRole, Status, Unbuilt};

@@ -2,11 +2,13 @@
 
 ghost use Rattle.std.specs.Prelude.{◌≡◌, ◌<◌, ◌≤◌, ◌^◌, length, IfOk, IfErr, vec_len};
 ghost use Rattle.surge_outside.specs.Counts.{HasRisen};
+ghost use Rattle.surge_cli.specs.FilesState.{GoesOn};
 ghost use Rattle.surge_cli.specs.Reading.{IsToldFront};
 ghost use Rattle.surge_cli.specs.ReadingAnswer.{Reads, Takes};
 
+use crate::named_files::NamedFiles;
 use std::alloc::Global;
-use surge_outside::{Fetched, Files, Trouble};
+use surge_outside::{Fetched, Trouble};
 
 /// What reading a file gave.
 #[derive(Debug, Drop)]
@@ -36,7 +38,7 @@ fn buffer(alloc: Global) -> Result<Vec<u8>, Trouble>
 }
 
 // Adds the next piece of a file to the bytes that were read before it.
-fn take_piece<F: Files>(
+fn take_piece<F: NamedFiles>(
     files: &mut F,
     name: &str,
     limit: usize,
@@ -45,17 +47,15 @@ fn take_piece<F: Files>(
 ) -> Result<Taken, Trouble>
     requires room { 0 < length piece.old }
     requires within { vec_len bytes.old ≤ limit }
-    requires front { IsToldFront (F.held files.old) name.now bytes.old.items }
-    ensures answer { IfOk result (λ t. Takes (F.held files.old) name.now limit t bytes.new.items) }
+    requires front { IsToldFront (F.state files.old).held name.now bytes.old.items }
+    ensures answer { IfOk result (λ t. Takes (F.state files.old).held name.now limit t bytes.new.items) }
     ensures within { vec_len bytes.new ≤ limit }
     ensures grows { result ≡ Ok Taken.More → vec_len bytes.old < vec_len bytes.new }
-    ensures held { F.held files.new ≡ F.held files.old }
-    ensures faults { F.faults files.old ≤ F.faults files.new }
-    ensures absences { F.absences files.old ≤ F.absences files.new }
-    ensures absent { result ≡ Ok Taken.Absent → HasRisen (F.absences files.old) (F.absences files.new) }
-    ensures failed { result ≡ Err Trouble.Failed → HasRisen (F.faults files.old) (F.faults files.new) }
+    ensures files { GoesOn (F.state files.old) (F.state files.new) }
+    ensures absent { result ≡ Ok Taken.Absent → HasRisen ((F.state files.old).absences name.now) ((F.state files.new).absences name.now) }
+    ensures failed { result ≡ Err Trouble.Failed → HasRisen ((F.state files.old).faults name.now) ((F.state files.new).faults name.now) }
 {
-    match files.fetch(name, bytes.len() as u64, piece)? {
+    match files.fetch_named(name, bytes.len() as u64, piece)? {
         Fetched::Absent => Ok(Taken::Absent),
         Fetched::Bytes(count) => {
             if count == 0 {
@@ -72,19 +72,17 @@ fn take_piece<F: Files>(
 }
 
 /// Reads a file to its end, or up to the first piece past the limit.
-pub(crate) fn read_file<F: Files>(
+pub(crate) fn read_file<F: NamedFiles>(
     alloc: Global,
     files: &mut F,
     name: &str,
     limit: usize,
 ) -> Result<Reading, Trouble>
     requires { limit < 2 ^ 40 }
-    ensures answer { IfOk result (λ r. Reads (F.held files.old) name.now limit r) }
-    ensures held { F.held files.new ≡ F.held files.old }
-    ensures faults { F.faults files.old ≤ F.faults files.new }
-    ensures absences { F.absences files.old ≤ F.absences files.new }
-    ensures absent { result ≡ Ok Reading.Absent → HasRisen (F.absences files.old) (F.absences files.new) }
-    ensures failed { result ≡ Err Trouble.Failed → HasRisen (F.faults files.old) (F.faults files.new) }
+    ensures answer { IfOk result (λ r. Reads (F.state files.old).held name.now limit r) }
+    ensures files { GoesOn (F.state files.old) (F.state files.new) }
+    ensures absent { result ≡ Ok Reading.Absent → HasRisen ((F.state files.old).absences name.now) ((F.state files.new).absences name.now) }
+    ensures failed { result ≡ Err Trouble.Failed → HasRisen ((F.state files.old).faults name.now) ((F.state files.new).faults name.now) }
 {
     let mut piece = buffer(alloc)?;
     let mut bytes = Vec::new(alloc);

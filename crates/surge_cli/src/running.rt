@@ -1,30 +1,36 @@
 //! The program as one call.
 
 ghost use Rattle.std.specs.Prelude.{◌≡◌, ◌⊎◌, map, string_bytes, IfSome};
-ghost use Rattle.surge_cli.specs.Answers.{Answers, KeepsOutput, OfWords, Rises, Matches, Reports};
-ghost use Rattle.surge_cli.specs.Expected.{Expectation, Expects};
+ghost use Rattle.std.specs.IoError.{error_kind};
+ghost use Rattle.std.specs.declared.io.ErrorKind.TheVariants.{OutOfMemory};
 ghost use Rattle.surge_cli.specs.StatusText.{status_line};
-ghost use Rattle.surge_cli.specs.Words.{script_asked};
+ghost use Rattle.surge_cli.specs.Words.{command_line};
+ghost use Rattle.surge_cli.specs.Expected.{Expectation, Expects};
+ghost use Rattle.surge_cli.specs.Headline.{Means};
+ghost use Rattle.surge_cli.specs.Reaches.{Reaches};
+ghost use Rattle.surge_cli.specs.Causes.{OfWords, NamesNone, counts, Causes, AgreesWith, Reports};
 
+use crate::named_files::NamedFiles;
 use crate::session::do_job;
 use crate::stages::prepare;
 use crate::status::Status;
 use std::alloc::Global;
-use surge_outside::{Files, NoMemory, Sink, Trouble, put_all};
+use std::io;
+use surge_outside::{NoMemory, Sink, Trouble, put_all};
 use vertex_lang::Updater;
 
 // Reads, runs and writes.
-fn run<F: Files, O: Sink, U: Updater>(
+fn run<F: NamedFiles, O: Sink, U: Updater>(
     alloc: Global,
     words: &[String],
     files: &mut F,
     out: &mut O,
     updater: &mut U,
 ) -> Status
-    ensures answer { IfSome (F.held files.old) (λ held. Answers U.answer held (map string_bytes words.now) result (O.written out.old) (O.written out.new)) }
-    ensures before { KeepsOutput result (O.written out.old) (O.written out.new) }
-    ensures words { OfWords (script_asked (map string_bytes words.now)) result }
-    ensures counts { Rises result (F.absences files.old) (F.absences files.new) (F.faults files.old) (F.faults files.new) (O.faults out.old) (O.faults out.new) }
+    ensures headline { Means U.answer (F.state files.old).held (map string_bytes words.now) result (O.written out.old) (O.written out.new) }
+    ensures words { OfWords (command_line (map string_bytes words.now)) result }
+    ensures unread { NamesNone (command_line (map string_bytes words.now)) → files.new ≡ files.old }
+    ensures causes { Causes (Reaches (F.state files.old).held (map string_bytes words.now)) result (counts (F.state files.old) (O.faults out.old)) (counts (F.state files.new) (O.faults out.new)) }
 {
     match prepare(alloc, files, words) {
         Ok(job) => match do_job(alloc, &job, out, updater) {
@@ -36,7 +42,7 @@ fn run<F: Files, O: Sink, U: Updater>(
     }
 }
 
-// Writes this line of an answer. Where that finds no memory, this is the answer.
+// Writes this line of a status. Where that finds no memory, this is the status.
 fn write_line<E: Sink>(status: Status, line: &str, err: &mut E) -> Status
     requires ended { status ≡ Status.Done → ⊥ }
     requires line { line.now ≡ status_line status }
@@ -50,7 +56,7 @@ fn write_line<E: Sink>(status: Status, line: &str, err: &mut E) -> Status
     }
 }
 
-// Writes the line of an answer. Where it finds no memory for that, this is the answer, and no second line is begun.
+// Writes the line of a status. Where it finds no memory for that, this is the status, and no second line is begun.
 fn report_line<E: Sink>(alloc: Global, status: Status, err: &mut E) -> Status
     requires { status ≡ Status.Done → ⊥ }
     ensures same { (result ≡ status) ⊎ (result ≡ Status.NoMemory) }
@@ -62,7 +68,7 @@ fn report_line<E: Sink>(alloc: Global, status: Status, err: &mut E) -> Status
     }
 }
 
-// Writes the line of an answer, if it has one.
+// Writes the line of a status, if it has one.
 fn report<E: Sink>(alloc: Global, status: Status, err: &mut E) -> Status
     ensures same { (result ≡ status) ⊎ ((result ≡ Status.NoMemory) × (status ≡ Status.Done → ⊥)) }
     ensures line { Reports result (E.written err.old) (E.written err.new) (E.faults err.old) (E.faults err.new) }
@@ -75,13 +81,13 @@ fn report<E: Sink>(alloc: Global, status: Status, err: &mut E) -> Status
 
 /// Runs the program: reads the script that the words name and the two data files that it names, checks the script, makes
 /// each of its runs alone on each view, and writes the tables to `out`; or, in the mode `check`, writes the script's
-/// canonical text. An answer other than [`Status::Done`] is reported to `err` as one line.
+/// canonical text. A status other than [`Status::Done`] is reported to `err` as one line.
 ///
 /// The words are the program's name and `(--script FILE | --sample N) [--mode run|check|summary] [--turns N]`, as `clap`
 /// reads four options that each take one text; so far only `--script` is built, with the modes `run` and `check`. What is
-/// told of the files decides the answer, unless the outside fails or memory is wanting: the first refusal in the order of
+/// told of the files decides the status, unless the outside fails or memory is wanting: the first refusal in the order of
 /// reading, or the output. Views and collections of views are those of Graphsurge (Sahu and Salihoglu 2021).
-pub fn surge<F: Files, O: Sink, E: Sink, U: Updater>(
+pub fn surge<F: NamedFiles, O: Sink, E: Sink, U: Updater>(
     alloc: Global,
     words: &[String],
     files: &mut F,
@@ -89,24 +95,39 @@ pub fn surge<F: Files, O: Sink, E: Sink, U: Updater>(
     err: &mut E,
     updater: &mut U,
 ) -> Status
-    // The headline: what each answer means, and what was written by then, for every updater.
-    ensures answer { IfSome (F.held files.old) (λ held. Answers U.answer held (map string_bytes words.now) result (O.written out.old) (O.written out.new)) }
+    // The headline: what each status means, and what was written by then, for every updater.
+    ensures headline { Means U.answer (F.state files.old).held (map string_bytes words.now) result (O.written out.old) (O.written out.new) }
 
-    // A refusal before the execution writes nothing, whether the files are told or not.
-    ensures before { KeepsOutput result (O.written out.old) (O.written out.new) }
+    // What is expected of the files is the status, unless it came from the outside.
+    ensures exact { IfSome (F.state files.old).held (λ held. (e : Expectation) → Expects held (map string_bytes words.now) e → AgreesWith result e) }
 
     // Words that are not of the form are answered Usage and no others are, whatever the files do, but for want of memory.
-    ensures words { OfWords (script_asked (map string_bytes words.now)) result }
+    ensures words { OfWords (command_line (map string_bytes words.now)) result }
 
-    // An absence, a read fault or a write fault is answered only where its count rose.
-    ensures counts { Rises result (F.absences files.old) (F.absences files.new) (F.faults files.old) (F.faults files.new) (O.faults out.old) (O.faults out.new) }
+    // Where the words name no script, nothing is asked of the files.
+    ensures unread { NamesNone (command_line (map string_bytes words.now)) → files.new ≡ files.old }
 
-    // What is expected of the files is the answer, unless it came from the outside.
-    ensures exact { IfSome (F.held files.old) (λ held. (e : Expectation) → Expects held (map string_bytes words.now) e → Matches result e) }
+    // An absence, a read fault or a write fault comes only where its count rose, and one of a file only where that file was
+    // reached.
+    ensures causes { Causes (Reaches (F.state files.old).held (map string_bytes words.now)) result (counts (F.state files.old) (O.faults out.old)) (counts (F.state files.new) (O.faults out.new)) }
 
     // One line on standard error, and none where the run is done.
     ensures line { Reports result (E.written err.old) (E.written err.new) (E.faults err.old) (E.faults err.new) }
 {
     let status = run(alloc, words, files, out, updater);
+    report(alloc, status, err)
+}
+
+/// The status where the words of the command line could not be had, which is reported to `err` as one line: words that
+/// are not text are not of the form.
+pub fn refuse_words<E: Sink>(alloc: Global, error: &io::Error, err: &mut E) -> Status
+    ensures memory { error_kind error.now ≡ OutOfMemory → result ≡ Status.NoMemory }
+    ensures usage { (error_kind error.now ≡ OutOfMemory → ⊥) → (result ≡ Status.Usage) ⊎ (result ≡ Status.NoMemory) }
+    ensures line { Reports result (E.written err.old) (E.written err.new) (E.faults err.old) (E.faults err.new) }
+{
+    let status = match error.kind() {
+        io::ErrorKind::OutOfMemory => Status::NoMemory,
+        _ => Status::Usage,
+    };
     report(alloc, status, err)
 }

@@ -1,26 +1,30 @@
 //! From the words to a job, stage by stage.
 
-ghost use Rattle.std.specs.Prelude.{◌≡◌, ◌≤◌, ◌<◌, ◌^◌, map, string_bytes, length, IfOk, IfErr};
+ghost use Rattle.std.specs.Prelude.{◌≡◌, ◌<◌, ◌^◌, map, string_bytes, length, IfOk, IfErr};
 ghost use Rattle.graph_loader.specs.DataFiles.{graph_of};
 ghost use Rattle.gvdl_check.specs.Fits.{PlanFits};
 ghost use Rattle.gvdl_check.specs.Plans.{plan};
 ghost use Rattle.gvdl_check.specs.Written.{IsWritten};
-ghost use Rattle.surge_cli.specs.Answers.{OfWords};
+ghost use Rattle.surge_cli.specs.FilesState.{GoesOn};
+ghost use Rattle.surge_cli.specs.Words.{command_line};
 ghost use Rattle.surge_cli.specs.Expected.{limit_of, too_large, large_of, fetched, loaded, planned, graph_with, graph_for, job_over, job_for, ExpectsAsked, Expects};
-ghost use Rattle.surge_cli.specs.Stages.{IsStop, IsStage, IsInner, RisesBefore, Tells, TellsHeld, MeetsHeld, StopsWords, IsNamed, IsTheScript, StopsParse, HasScript, StopsScript};
-ghost use Rattle.surge_cli.specs.Words.{script_asked};
+ghost use Rattle.surge_cli.specs.Headline.{AsksFor};
+ghost use Rattle.surge_cli.specs.Reaches.{IsTheScript, HasScript, ReachesData, ReachesAsked, Reaches};
+ghost use Rattle.surge_cli.specs.Causes.{OfWords, NamesNone};
+ghost use Rattle.surge_cli.specs.Stages.{IsStop, IsStage, IsInner, IsFile, RisesBefore, IsSaid, IsSaidOf, IsExpectedOf, StopsWords, StopsParse, StopsScript};
 
 use crate::job::Job;
+use crate::named_files::NamedFiles;
 use crate::reading::{Reading, read_file};
 use crate::status::{FileRole, Status, Unbuilt};
-use crate::words::{Asked, Task, asked_of, read_words};
+use crate::words::{Asked, CommandLine, Task, command_line};
 use graph_loader::{DataFault, DataFile, DataKind, LoadFault, load};
 use graph_model::Graph;
 use gvdl_check::{CheckFault, Plan, check};
 use gvdl_parser::{ParseFault, ScriptFault, parse};
 use gvdl_tree::Script;
 use std::alloc::Global;
-use surge_outside::{Files, List, NoMemory, Trouble};
+use surge_outside::{List, NoMemory, Trouble};
 
 fn limit_of(role: FileRole) -> usize
     ensures limit { result ≡ limit_of role }
@@ -47,7 +51,7 @@ fn too_large(file: DataFile) -> Status
 // The answer to a file of more bytes than its limit.
 fn large_of(role: FileRole) -> Status
     ensures value { result ≡ large_of role }
-    ensures stage { IsStage result }
+    ensures inner { IsInner result }
 {
     match role {
         FileRole::Script => Status::Script(ScriptFault::TooLarge),
@@ -57,19 +61,17 @@ fn large_of(role: FileRole) -> Status
 }
 
 // Fetches a whole file within its limit.
-fn fetch<F: Files>(
+fn fetch<F: NamedFiles>(
     alloc: Global,
     files: &mut F,
     role: FileRole,
     name: &str,
 ) -> Result<List<u8>, Status>
-    ensures told { TellsHeld (F.held files.old) (λ held. fetched held role name.now) result }
+    ensures said { IsSaidOf (F.state files.old).held (λ held. fetched held role name.now) result }
     ensures small { IfOk result (λ bytes. length bytes < 2 ^ 31) }
     ensures stage { IfErr result IsStage }
-    ensures held { F.held files.new ≡ F.held files.old }
-    ensures faults { F.faults files.old ≤ F.faults files.new }
-    ensures absences { F.absences files.old ≤ F.absences files.new }
-    ensures counts { IfErr result (λ s. RisesBefore s (F.absences files.old) (F.absences files.new) (F.faults files.old) (F.faults files.new)) }
+    ensures files { GoesOn (F.state files.old) (F.state files.new) }
+    ensures causes { IfErr result (λ s. RisesBefore (IsFile role name.now) s (F.state files.old) (F.state files.new)) }
 {
     match read_file(alloc, files, name, limit_of(role)) {
         Ok(Reading::Bytes(bytes)) => Ok(List::from_vec(bytes)),
@@ -85,7 +87,7 @@ fn parse_script(alloc: Global, text: &[u8]) -> Result<Script, Status>
     ensures ok { IfOk result (IsTheScript text.now) }
     ensures written { IfOk result IsWritten }
     ensures err { IfErr result (StopsParse text.now) }
-    ensures stage { IfErr result IsStage }
+    ensures inner { IfErr result IsInner }
 {
     match parse(alloc, text) {
         Ok(script) => Ok(script),
@@ -95,7 +97,7 @@ fn parse_script(alloc: Global, text: &[u8]) -> Result<Script, Status>
 }
 
 fn load_graph(alloc: Global, nodes: &[u8], edges: &[u8]) -> Result<Graph, Status>
-    ensures told { Tells (loaded (graph_of nodes.now edges.now)) result }
+    ensures said { IsSaid (loaded (graph_of nodes.now edges.now)) result }
     ensures inner { IfErr result IsInner }
 {
     match load(alloc, nodes, edges) {
@@ -107,7 +109,7 @@ fn load_graph(alloc: Global, nodes: &[u8], edges: &[u8]) -> Result<Graph, Status
 
 fn plan_script(alloc: Global, script: &Script, graph: &Graph) -> Result<Plan, Status>
     requires { IsWritten script.now }
-    ensures told { Tells (planned (plan script.now graph.now)) result }
+    ensures said { IsSaid (planned (plan script.now graph.now)) result }
     ensures fits { IfOk result (PlanFits graph.now) }
     ensures inner { IfErr result IsInner }
 {
@@ -120,18 +122,16 @@ fn plan_script(alloc: Global, script: &Script, graph: &Graph) -> Result<Plan, St
 }
 
 // The graph that these bytes of a nodes file and the edges file of a script spell.
-fn load_edges<F: Files>(
+fn load_edges<F: NamedFiles>(
     alloc: Global,
     files: &mut F,
     script: &Script,
     nodes: &[u8],
 ) -> Result<Graph, Status>
-    ensures told { TellsHeld (F.held files.old) (λ held. graph_with held script.now nodes.now) result }
+    ensures said { IsSaidOf (F.state files.old).held (λ held. graph_with held script.now nodes.now) result }
     ensures stage { IfErr result IsStage }
-    ensures held { F.held files.new ≡ F.held files.old }
-    ensures faults { F.faults files.old ≤ F.faults files.new }
-    ensures absences { F.absences files.old ≤ F.absences files.new }
-    ensures counts { IfErr result (λ s. RisesBefore s (F.absences files.old) (F.absences files.new) (F.faults files.old) (F.faults files.new)) }
+    ensures files { GoesOn (F.state files.old) (F.state files.new) }
+    ensures causes { IfErr result (λ s. RisesBefore (IsFile FileRole.Edges script.now.edges) s (F.state files.old) (F.state files.new)) }
 {
     match fetch(alloc, files, FileRole::Edges, script.edges.as_str()) {
         Ok(edges) => load_graph(alloc, nodes, edges.as_slice()),
@@ -140,13 +140,11 @@ fn load_edges<F: Files>(
 }
 
 // The graph that the data files of a script spell.
-fn load_data<F: Files>(alloc: Global, files: &mut F, script: &Script) -> Result<Graph, Status>
-    ensures told { TellsHeld (F.held files.old) (λ held. graph_for held script.now) result }
+fn load_data<F: NamedFiles>(alloc: Global, files: &mut F, script: &Script) -> Result<Graph, Status>
+    ensures said { IsSaidOf (F.state files.old).held (λ held. graph_for held script.now) result }
     ensures stage { IfErr result IsStage }
-    ensures held { F.held files.new ≡ F.held files.old }
-    ensures faults { F.faults files.old ≤ F.faults files.new }
-    ensures absences { F.absences files.old ≤ F.absences files.new }
-    ensures counts { IfErr result (λ s. RisesBefore s (F.absences files.old) (F.absences files.new) (F.faults files.old) (F.faults files.new)) }
+    ensures files { GoesOn (F.state files.old) (F.state files.new) }
+    ensures causes { IfErr result (λ s. RisesBefore (ReachesData (F.state files.old).held script.now) s (F.state files.old) (F.state files.new)) }
 {
     match fetch(alloc, files, FileRole::Nodes, script.nodes.as_str()) {
         Ok(nodes) => load_edges(alloc, files, script, nodes.as_slice()),
@@ -157,8 +155,9 @@ fn load_data<F: Files>(alloc: Global, files: &mut F, script: &Script) -> Result<
 // The job over this graph.
 fn job_over(alloc: Global, task: Task, script: Script, graph: Graph) -> Result<Job, Status>
     requires { IsWritten script }
-    ensures told { Tells (job_over task script graph) result }
+    ensures said { IsSaid (job_over task script graph) result }
     ensures fits { IfOk result (λ job. PlanFits job.graph job.plan) }
+    ensures task { IfOk result (λ job. task ≡ job.task) }
     ensures inner { IfErr result IsInner }
 {
     match plan_script(alloc, &script, &graph) {
@@ -173,18 +172,19 @@ fn job_over(alloc: Global, task: Task, script: Script, graph: Graph) -> Result<J
 }
 
 // The job over the data files that a script names.
-fn job_for<F: Files>(
+fn job_for<F: NamedFiles>(
     alloc: Global,
     files: &mut F,
     task: Task,
     script: Script,
 ) -> Result<Job, Status>
     requires { IsWritten script }
-    ensures told { TellsHeld (F.held files.old) (λ held. job_for held task script) result }
+    ensures said { IsSaidOf (F.state files.old).held (λ held. job_for held task script) result }
     ensures fits { IfOk result (λ job. PlanFits job.graph job.plan) }
+    ensures task { IfOk result (λ job. task ≡ job.task) }
     ensures stage { IfErr result IsStage }
-    ensures held { F.held files.new ≡ F.held files.old }
-    ensures counts { IfErr result (λ s. RisesBefore s (F.absences files.old) (F.absences files.new) (F.faults files.old) (F.faults files.new)) }
+    ensures files { GoesOn (F.state files.old) (F.state files.new) }
+    ensures causes { IfErr result (λ s. RisesBefore (ReachesData (F.state files.old).held script) s (F.state files.old) (F.state files.new)) }
 {
     match load_data(alloc, files, &script) {
         Ok(graph) => job_over(alloc, task, script, graph),
@@ -193,15 +193,13 @@ fn job_for<F: Files>(
 }
 
 // The script in the file of this name.
-fn fetch_script<F: Files>(alloc: Global, files: &mut F, name: &str) -> Result<Script, Status>
-    ensures ok { IfOk result (HasScript (F.held files.old) name.now) }
+fn fetch_script<F: NamedFiles>(alloc: Global, files: &mut F, name: &str) -> Result<Script, Status>
+    ensures ok { IfOk result (HasScript (F.state files.old).held name.now) }
     ensures written { IfOk result IsWritten }
-    ensures err { IfErr result (StopsScript (F.held files.old) name.now) }
+    ensures err { IfErr result (StopsScript (F.state files.old).held name.now) }
     ensures stage { IfErr result IsStage }
-    ensures held { F.held files.new ≡ F.held files.old }
-    ensures faults { F.faults files.old ≤ F.faults files.new }
-    ensures absences { F.absences files.old ≤ F.absences files.new }
-    ensures counts { IfErr result (λ s. RisesBefore s (F.absences files.old) (F.absences files.new) (F.faults files.old) (F.faults files.new)) }
+    ensures files { GoesOn (F.state files.old) (F.state files.new) }
+    ensures causes { IfErr result (λ s. RisesBefore (IsFile FileRole.Script name.now) s (F.state files.old) (F.state files.new)) }
 {
     match fetch(alloc, files, FileRole::Script, name) {
         Ok(text) => parse_script(alloc, text.as_slice()),
@@ -210,12 +208,13 @@ fn fetch_script<F: Files>(alloc: Global, files: &mut F, name: &str) -> Result<Sc
 }
 
 // The job that is asked for.
-fn job_asked<F: Files>(alloc: Global, files: &mut F, asked: &Asked) -> Result<Job, Status>
-    ensures told { MeetsHeld (F.held files.old) (λ held. ExpectsAsked held (Some (Some asked.now))) result }
+fn job_asked<F: NamedFiles>(alloc: Global, files: &mut F, asked: &Asked) -> Result<Job, Status>
+    ensures said { IsExpectedOf (F.state files.old).held (λ held. ExpectsAsked held (CommandLine.Asked asked.now)) result }
     ensures fits { IfOk result (λ job. PlanFits job.graph job.plan) }
+    ensures task { IfOk result (λ job. asked.now.task ≡ job.task) }
     ensures stage { IfErr result IsStage }
-    ensures held { F.held files.new ≡ F.held files.old }
-    ensures counts { IfErr result (λ s. RisesBefore s (F.absences files.old) (F.absences files.new) (F.faults files.old) (F.faults files.new)) }
+    ensures files { GoesOn (F.state files.old) (F.state files.new) }
+    ensures causes { IfErr result (λ s. RisesBefore (ReachesAsked (F.state files.old).held asked.now) s (F.state files.old) (F.state files.new)) }
 {
     match fetch_script(alloc, files, asked.script.as_str()) {
         Ok(script) => job_for(alloc, files, asked.task, script),
@@ -224,34 +223,31 @@ fn job_asked<F: Files>(alloc: Global, files: &mut F, asked: &Asked) -> Result<Jo
 }
 
 // What the words ask for.
-#[tactic(auto, unfolding(crate::specs::Words::script_asked))]
 fn read_asked(alloc: Global, words: &[String]) -> Result<Asked, Status>
-    ensures ok { IfOk result (λ asked. script_asked (map string_bytes words.now) ≡ Some (Some asked)) }
+    ensures ok { IfOk result (λ asked. command_line (map string_bytes words.now) ≡ CommandLine.Asked asked) }
     ensures err { IfErr result (StopsWords (map string_bytes words.now)) }
 {
-    match read_words(alloc, words) {
-        Ok(Some(request)) => match asked_of(request) {
-            Some(asked) => Ok(asked),
-            None => Err(Status::NotBuilt(Unbuilt::Words)),
-        },
-        Ok(None) => Err(Status::Usage),
+    match command_line(alloc, words) {
+        Ok(CommandLine::Asked(asked)) => Ok(asked),
+        Ok(CommandLine::NotBuilt) => Err(Status::NotBuilt(Unbuilt::Words)),
+        Ok(CommandLine::NotOfForm) => Err(Status::Usage),
         Err(NoMemory) => Err(Status::NoMemory),
     }
 }
 
 /// The job that the words ask for, or the first refusal.
-pub(crate) fn prepare<F: Files>(
+pub(crate) fn prepare<F: NamedFiles>(
     alloc: Global,
     files: &mut F,
     words: &[String],
 ) -> Result<Job, Status>
-    ensures told { MeetsHeld (F.held files.old) (λ held. Expects held (map string_bytes words.now)) result }
+    ensures said { IsExpectedOf (F.state files.old).held (λ held. Expects held (map string_bytes words.now)) result }
     ensures fits { IfOk result (λ job. PlanFits job.graph job.plan) }
+    ensures task { IfOk result (λ job. AsksFor (command_line (map string_bytes words.now)) job.task) }
     ensures stop { IfErr result IsStop }
-    ensures named { IfOk result (λ job. IsNamed (script_asked (map string_bytes words.now))) }
-    ensures words { IfErr result (OfWords (script_asked (map string_bytes words.now))) }
-    ensures held { F.held files.new ≡ F.held files.old }
-    ensures counts { IfErr result (λ s. RisesBefore s (F.absences files.old) (F.absences files.new) (F.faults files.old) (F.faults files.new)) }
+    ensures words { IfErr result (OfWords (command_line (map string_bytes words.now))) }
+    ensures unread { NamesNone (command_line (map string_bytes words.now)) → files.new ≡ files.old }
+    ensures causes { IfErr result (λ s. RisesBefore (Reaches (F.state files.old).held (map string_bytes words.now)) s (F.state files.old) (F.state files.new)) }
 {
     match read_asked(alloc, words) {
         Ok(asked) => job_asked(alloc, files, &asked),

@@ -4,7 +4,7 @@ ghost use Rattle.std.specs.Prelude.{◌≡◌, map, option_map, string_bytes, If
 ghost use Rattle.std.specs.Char.{is_ascii_digit};
 ghost use Rattle.std.specs.List.{list_all};
 ghost use Rattle.clap.specs.Words.{app_of, first_of, found_of, rows_of};
-ghost use Rattle.surge_cli.specs.Words.{command, matched, number_of, file_of, source_of, mode_named, mode_of, turns_of, joined, request_from, request_of, asked_of};
+ghost use Rattle.surge_cli.specs.Words.{command, matched, number_of, file_of, source_of, mode_named, mode_of, turns_of, joined, request_from, request_of, asked_of, command_line};
 
 use clap::error::ErrorKind;
 use clap::{Arg, ArgMatches, Command};
@@ -55,6 +55,17 @@ pub(crate) struct Asked {
     /// The name of the script's file, which is not empty.
     pub(crate) script: Text,
     pub(crate) task: Task,
+}
+
+/// What the words of the command line come to.
+#[derive(Debug, Drop)]
+pub(crate) enum CommandLine {
+    /// They are not of the form.
+    NotOfForm,
+    /// They ask for what is not built yet.
+    NotBuilt,
+    /// They ask for a script.
+    Asked(Asked),
 }
 
 /// A number has at most so many digits, leading zeros among them.
@@ -199,8 +210,8 @@ fn request_from(alloc: Global, matches: &ArgMatches<'_>) -> Result<Option<Reques
     Ok(joined(source, mode, turns))
 }
 
-/// What the words ask for, or none where they are not of the form. The first word is the program's name.
-pub(crate) fn read_words(alloc: Global, words: &[String]) -> Result<Option<Request>, NoMemory>
+// What the words ask for, or none where they are not of the form. The first word is the program's name.
+fn read_words(alloc: Global, words: &[String]) -> Result<Option<Request>, NoMemory>
     ensures { IfOk result (λ request. request ≡ request_of (map string_bytes words.now)) }
 {
     match matches(alloc, words)? {
@@ -209,19 +220,31 @@ pub(crate) fn read_words(alloc: Global, words: &[String]) -> Result<Option<Reque
     }
 }
 
-/// The script that a request asks for, and what is done of it, where requests of its kind are built.
-pub(crate) fn asked_of(request: Request) -> Option<Asked>
+// The script that a request asks for, and what is done of it, where requests of its kind are built.
+fn asked_of(request: Request) -> CommandLine
     ensures { result ≡ asked_of request }
 {
     match (request.source, request.mode, request.turns) {
-        (Source::Script(script), Mode::Run, None) => Some(Asked {
+        (Source::Script(script), Mode::Run, None) => CommandLine::Asked(Asked {
             script,
             task: Task::Run,
         }),
-        (Source::Script(script), Mode::Check, None) => Some(Asked {
+        (Source::Script(script), Mode::Check, None) => CommandLine::Asked(Asked {
             script,
             task: Task::Check,
         }),
-        _ => None,
+        _ => CommandLine::NotBuilt,
+    }
+}
+
+/// What the words come to. The first word is the program's name.
+#[tactic(auto, unfolding(crate::specs::Words::command_line))]
+pub(crate) fn command_line(alloc: Global, words: &[String]) -> Result<CommandLine, NoMemory>
+    ensures { IfOk result (λ line. line ≡ command_line (map string_bytes words.now)) }
+{
+    match read_words(alloc, words) {
+        Ok(Some(request)) => Ok(asked_of(request)),
+        Ok(None) => Ok(CommandLine::NotOfForm),
+        Err(NoMemory) => Err(NoMemory),
     }
 }

@@ -1,28 +1,33 @@
-//! Whole runs of the program over files in memory, against outputs that were worked out by hand.
+//! Whole runs of the program that need ends in memory: calls that fail in the middle, pieces cut at any place, ends that
+//! want memory, files past their limits, and another updater. Runs that files and words alone can make are folders under
+//! `tests/runs`.
 //!
-//! It stands on top of every other crate, and nothing stands on it. Its tests cross crates: what no contract says alone,
-//! above all that the definitions mean what they are meant to, and that a run finds memory. Each row is a script and two
-//! data files, the number of bytes that an end takes at once, and the calls that fail.
+//! It stands on top of every other crate, and nothing stands on it. What it shows is what no contract says alone: that the
+//! definitions mean what they are meant to, and that a run finds memory.
 #![tactic(auto)]
 
 ghost use Rattle.std.specs.Prelude.{◌≡◌, ◌<◌, ◌≤◌};
 
+mod lacking;
+mod starter;
+
+pub use lacking::{LackingFiles, LackingSink};
+pub use starter::Starter;
 use std::alloc::{AllocError, Global};
 use std::sync::ledger::{Blank, Ledger};
 use surge_cli::{Status, surge};
 use surge_outside::{List, MemoryFiles, MemorySink, Steps, Text};
+use vertex_lang::Updater;
 
-/// What the files in memory hold, where they are there, and the names of the data files.
+/// What the files in memory hold, where they are there: the script `s`, and the data files `n4.csv` and `e1.csv`.
 #[derive(Clone, Copy)]
 pub struct Contents<'a> {
-    pub script: Option<&'a [u8]>,
+    pub script: &'a [u8],
     pub nodes: Option<&'a [u8]>,
     pub edges: Option<&'a [u8]>,
-    pub nodes_name: &'a str,
-    pub edges_name: &'a str,
 }
 
-/// What a run left: its answer, and what was written.
+/// What a run left: its status, and what was written.
 #[derive(Drop)]
 pub struct Left {
     pub status: Status,
@@ -30,8 +35,13 @@ pub struct Left {
     pub err: Vec<u8>,
 }
 
-fn text(alloc: Global, bytes: &str) -> Result<Text, AllocError> {
-    Ok(Text::from_string(String::from_str(alloc, bytes)?))
+/// How many bytes an end takes or gives at once, and which call of each end fails, by its number from 1.
+#[derive(Clone, Copy)]
+pub struct Ends {
+    pub piece: usize,
+    pub fetch: Option<u64>,
+    pub write: Option<u64>,
+    pub report: Option<u64>,
 }
 
 type Held = Vec<(Text, List<u8>)>;
@@ -45,29 +55,29 @@ fn hold(
 ) -> Result<(), AllocError> {
     if let Some(bytes) = bytes {
         held.push((
-            text(alloc, name)?,
+            Text::from_string(String::from_str(alloc, name)?),
             List::from_vec(Vec::from_slice(alloc, bytes)?),
         ))?;
     }
     Ok(())
 }
 
-/// The calls that fail, by their numbers from 1.
-pub fn failing(alloc: Global, call: Option<u64>) -> Result<List<u64>, AllocError> {
+/// The script and the data files, those that are there.
+pub fn held(alloc: Global, files: &Contents<'_>) -> Result<List<(Text, List<u8>)>, AllocError> {
+    let mut held = Vec::new(alloc);
+    hold(alloc, &mut held, "s", Some(files.script))?;
+    hold(alloc, &mut held, "n4.csv", files.nodes)?;
+    hold(alloc, &mut held, "e1.csv", files.edges)?;
+    Ok(List::from_vec(held))
+}
+
+// The call that fails, as a list.
+fn failing(alloc: Global, call: Option<u64>) -> Result<List<u64>, AllocError> {
     let mut calls = Vec::new(alloc);
     if let Some(number) = call {
         calls.push(number)?;
     }
     Ok(List::from_vec(calls))
-}
-
-/// The script `s` and the data files, those that are there.
-pub fn held(alloc: Global, files: &Contents<'_>) -> Result<List<(Text, List<u8>)>, AllocError> {
-    let mut held = Vec::new(alloc);
-    hold(alloc, &mut held, "s", files.script)?;
-    hold(alloc, &mut held, files.nodes_name, files.nodes)?;
-    hold(alloc, &mut held, files.edges_name, files.edges)?;
-    Ok(List::from_vec(held))
 }
 
 /// Copies of the words of a command line.
@@ -79,34 +89,37 @@ pub fn copied(alloc: Global, words: &[&str]) -> Result<Vec<String>, AllocError> 
     Ok(copies)
 }
 
-/// Runs the program over these ends.
-pub fn run_over<L: Ledger>(
-    alloc: Global,
-    blank: Blank,
-    words: &[String],
-    files: &mut MemoryFiles,
-    out: &mut MemorySink,
-    err: &mut MemorySink,
-) -> Status
-    requires name { blank.name ≡ L.name }
-    requires parts { blank.parts ≡ L.parts }
-    requires some { 0 < L.parts }
-{
-    let mut steps = Steps::<L>::new(blank);
-    surge(alloc, words, files, out, err, &mut steps)
-}
-
-/// What to take at once, and which call of each end fails.
-#[derive(Clone, Copy)]
-pub struct Ends {
-    pub piece: usize,
-    pub fetch: Option<u64>,
-    pub write: Option<u64>,
-    pub report: Option<u64>,
-}
-
 /// Runs the program with these words over files and sinks in memory.
-pub fn run_memory<L: Ledger>(
+pub fn run_memory<U: Updater>(
+    alloc: Global,
+    words: &[&str],
+    files: &Contents<'_>,
+    ends: Ends,
+    updater: &mut U,
+) -> Result<Left, AllocError>
+    requires { 1 ≤ ends.piece }
+{
+    let mut files = MemoryFiles::new(held(alloc, files)?, ends.piece, failing(alloc, ends.fetch)?);
+    let mut out = MemorySink::new(alloc, ends.piece, failing(alloc, ends.write)?);
+    let mut err = MemorySink::new(alloc, ends.piece, failing(alloc, ends.report)?);
+    let words = copied(alloc, words)?;
+    let status = surge(
+        alloc,
+        words.as_slice(),
+        &mut files,
+        &mut out,
+        &mut err,
+        updater,
+    );
+    Ok(Left {
+        status,
+        out: Vec::from_slice(alloc, out.bytes())?,
+        err: Vec::from_slice(alloc, err.bytes())?,
+    })
+}
+
+/// The same, with a counter of steps as the updater.
+pub fn run_counted<L: Ledger>(
     alloc: Global,
     blank: Blank,
     words: &[&str],
@@ -118,23 +131,8 @@ pub fn run_memory<L: Ledger>(
     requires parts { blank.parts ≡ L.parts }
     requires some { 0 < L.parts }
 {
-    let mut files = MemoryFiles::new(held(alloc, files)?, ends.piece, failing(alloc, ends.fetch)?);
-    let mut out = MemorySink::new(alloc, ends.piece, failing(alloc, ends.write)?);
-    let mut err = MemorySink::new(alloc, ends.piece, failing(alloc, ends.report)?);
-    let words = copied(alloc, words)?;
-    let status = run_over::<L>(
-        alloc,
-        blank,
-        words.as_slice(),
-        &mut files,
-        &mut out,
-        &mut err,
-    );
-    Ok(Left {
-        status,
-        out: Vec::from_slice(alloc, out.bytes())?,
-        err: Vec::from_slice(alloc, err.bytes())?,
-    })
+    let mut steps = Steps::<L>::new(blank);
+    run_memory(alloc, words, files, ends, &mut steps)
 }
 
 #[cfg(test)]

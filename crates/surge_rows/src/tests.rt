@@ -2,23 +2,15 @@
 
 ghost use Rattle.std.specs.Prelude.{◌≡◌, ◌≤◌};
 
-mod check_mode;
-mod command_line;
-mod data_files;
-mod first_path;
-mod language;
-mod large_files;
-mod programs;
-mod refusals;
-mod script_form;
-mod statements;
-mod views;
+mod faults;
+mod sizes;
+mod updaters;
+mod wants;
 
-use crate::{Contents, Ends, Left, run_memory};
+use crate::{Contents, Ends, Left, run_counted};
 use std::marker::Brand;
 use std::sync::ledger::Blank;
 use std::test::Fail;
-use surge_cli::Status;
 
 const NODES: &str = "id\n1\n2\n3\n4\n";
 
@@ -30,35 +22,18 @@ const SCRIPT: &str =
 const TABLES: &str =
     "view C.a hops(1) settled 2\n1,0\n2,1\n3,2\n4,-\nend\nview C.b hops(1) settled 1\n1,0\n2,1\n3,1\n4,-\nend\nview C.c hops(1) settled 2\n1,0\n2,-\n3,1\n4,2\nend\n";
 
-const PHONES: &str =
-    "id,city:str,vip:bool\r\n10,Los Angeles,true\r\n20,\"San Jose, CA\",false\r\n30,Reno,\r\n40,Los Angeles,True\r\n";
-
-const CALLS: &str =
-    "src,dst,duration:int,year:int\r\n10,20,7,2010\r\n20,30,12,2015\r\n10,40,34,2019\r\n40,10,1,2019\r\n";
-
-// Runs the program with these words over these files.
-fn run(rt: &HostRuntime, words: &[&str], files: &Contents<'_>, ends: Ends) -> Result<Left, Fail>
-    requires { 1 ≤ ends.piece }
-{
-    Ok(run_memory::<Brand>(rt.alloc(), Blank::new(1), words, files, ends)?)
-}
-
-// Runs the script `s` over these files.
-fn row(rt: &HostRuntime, files: &Contents<'_>, ends: Ends) -> Result<Left, Fail>
-    requires { 1 ≤ ends.piece }
-{
-    run(rt, &["surge", "--script", "s"], files, ends)
-}
-
-// All three files, the data files under the names `n4.csv` and `e1.csv`.
-fn whole<'a>(script: &'a str, nodes: &'a str, edges: &'a str) -> Contents<'a> {
+// These files, of which those of the data may not be there.
+fn contents<'a>(script: &'a str, nodes: Option<&'a str>, edges: Option<&'a str>) -> Contents<'a> {
     Contents {
-        script: Some(script.as_bytes()),
-        nodes: Some(nodes.as_bytes()),
-        edges: Some(edges.as_bytes()),
-        nodes_name: "n4.csv",
-        edges_name: "e1.csv",
+        script: script.as_bytes(),
+        nodes: nodes.map(|text| text.as_bytes()),
+        edges: edges.map(|text| text.as_bytes()),
     }
+}
+
+// The three files of the worked example.
+fn whole() -> Contents<'static> {
+    contents(SCRIPT, Some(NODES), Some(EDGES))
 }
 
 fn sure(piece: usize) -> Ends
@@ -72,9 +47,16 @@ fn sure(piece: usize) -> Ends
     }
 }
 
-// Whether the script `s` over these files is done, and this is printed.
-fn prints(rt: &HostRuntime, files: &Contents<'_>, tables: &str) -> Result<bool, Fail> {
-    let left = row(rt, files, sure(4096))?;
-    let is_silent = left.status == Status::Done && left.err.is_empty();
-    Ok(is_silent && left.out.as_slice() == tables.as_bytes())
+// Runs the program with these words over these files.
+fn run(rt: &HostRuntime, words: &[&str], files: &Contents<'_>, ends: Ends) -> Result<Left, Fail>
+    requires { 1 ≤ ends.piece }
+{
+    Ok(run_counted::<Brand>(rt.alloc(), Blank::new(1), words, files, ends)?)
+}
+
+// Runs the script over these files.
+fn row(rt: &HostRuntime, files: &Contents<'_>, ends: Ends) -> Result<Left, Fail>
+    requires { 1 ≤ ends.piece }
+{
+    run(rt, &["surge", "--script", "s"], files, ends)
 }

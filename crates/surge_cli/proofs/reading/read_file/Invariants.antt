@@ -1,4 +1,5 @@
-use Rattle.std.proofs.Common.{◌≡◌, ◌-◌, ◌≤◌, ◌<◌, vec_len}
+use Rattle.std.proofs.Common.{◌-◌, ◌≤◌, ◌<◌, vec_len}
+use Rattle.surge_cli.specs.FilesState.{GoesOn}
 use Rattle.surge_cli.specs.Reading.{IsToldFront}
 use Rattle.surge_cli.proofs.reading.read_file.Given as goal
 
@@ -6,10 +7,8 @@ abbrev pub invariant-pieces : goal.invariant-pieces
 invariant-pieces g l = record {
   room : 0 < vec_len l.piece;
   within : vec_len l.bytes ≤ l.limit;
-  same_files : g.F.Files.held l.files ≡ g.F.Files.held l.fn.files;
-  faults : g.F.Files.faults l.fn.files ≤ g.F.Files.faults l.files;
-  absences : g.F.Files.absences l.fn.files ≤ g.F.Files.absences l.files;
-  front : IsToldFront (g.F.Files.held l.files) l.name l.bytes.items;
+  files : GoesOn (g.F.NamedFiles.state l.fn.files) (g.F.NamedFiles.state l.files);
+  front : IsToldFront (g.F.NamedFiles.state l.files).held l.name l.bytes.items;
 }
 
 abbrev pub decreases-pieces : goal.decreases-pieces

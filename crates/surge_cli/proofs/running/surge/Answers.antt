@@ -1,12 +1,22 @@
--- What is expected is decided by the files and the words.
+-- The line of a status changes it at most to want of memory.
 use Rattle.std.proofs.Common.{map, string_bytes}
-use Rattle.surge_cli.specs.Words.{script_asked}
-use Rattle.surge_cli.proofs.Endings.{reported_words}
-use Rattle.surge_cli.proofs.Deciding.{reported_matches}
+use Rattle.surge_cli.specs.Words.{command_line}
+use Rattle.surge_cli.specs.Reaches.{Reaches}
+use Rattle.surge_cli.specs.Causes.{counts}
+use Rattle.surge_cli.proofs.Endings.{reported_words, reported_means}
+use Rattle.surge_cli.proofs.Reaching.{reported_causes}
+use Rattle.surge_cli.proofs.Deciding.{reported_agrees}
 use Rattle.surge_cli.proofs.running.surge.Goals as goal
 
+pub returns-clause-headline : goal.returns-clause-headline
+returns-clause-headline g c = reported_means g.U.Updater.answer (g.F.NamedFiles.state c.args.files.now).held (map string_bytes c.args.words.now) c.run-status.result c.report.result (g.O.Sink.written c.args.out.now) (g.O.Sink.written c.run-status.new.out) c.report.ensures.same c.run-status.ensures.headline
+
 pub returns-clause-exact : goal.returns-clause-exact
-returns-clause-exact g c = reported_matches g.U.Updater.answer (g.F.Files.held c.args.files.now) (map string_bytes c.args.words.now) c.run-status.result c.report.result (g.O.Sink.written c.args.out.now) (g.O.Sink.written c.run-status.new.out) c.report.ensures.same c.run-status.ensures.answer
+returns-clause-exact g c = reported_agrees g.U.Updater.answer (g.F.NamedFiles.state c.args.files.now).held (map string_bytes c.args.words.now) c.run-status.result c.report.result (g.O.Sink.written c.args.out.now) (g.O.Sink.written c.run-status.new.out) c.report.ensures.same c.run-status.ensures.headline
 
 pub returns-clause-words : goal.returns-clause-words
-returns-clause-words g c = reported_words (script_asked (map string_bytes c.args.words.now)) c.run-status.result c.report.result c.report.ensures.same c.run-status.ensures.words
+returns-clause-words g c = reported_words (command_line (map string_bytes c.args.words.now)) c.run-status.result c.report.result c.report.ensures.same c.run-status.ensures.words
+
+pub returns-clause-causes : goal.returns-clause-causes
+returns-clause-causes g c =
+    reported_causes (Reaches (g.F.NamedFiles.state c.args.files.now).held (map string_bytes c.args.words.now)) c.run-status.result c.report.result (counts (g.F.NamedFiles.state c.args.files.now) (g.O.Sink.faults c.args.out.now)) (counts (g.F.NamedFiles.state c.run-status.new.files) (g.O.Sink.faults c.run-status.new.out)) c.report.ensures.same c.run-status.ensures.causes

@@ -1,24 +1,41 @@
 -- What was read is what the file tells.
-use Rattle.std.proofs.Common.{List, ℕ, subst, sym, Ok, Err}
+use Rattle.std.proofs.Common.{List, ℕ, subst, sym, ap, refl, Ok, Err}
 use Rattle.surge_cli.specs.declared.reading.Reading.TheVariants as reading
 use Rattle.surge_cli.specs.declared.status.Status.{Status}
 use Rattle.surge_cli.specs.Expected.{fetched}
-use Rattle.surge_cli.specs.Stages.{TellsHeld}
+use Rattle.surge_cli.specs.Stages.{IsSaidOf}
+use Rattle.surge_cli.specs.Stages.{IsFile}
 use Rattle.surge_cli.proofs.Fetching.{told}
+use Rattle.surge_cli.proofs.Endings.{inner_stages}
+use Rattle.surge_cli.proofs.Reaching.{inner_counts}
 use Rattle.surge_cli.proofs.stages.fetch.Goals as goal
 
-pub returns-in-Ok-Bytes-clause-told : goal.returns-in-Ok-Bytes-clause-told
-returns-in-Ok-Bytes-clause-told g c =
-    let held = g.F.Files.held c.args.files.now in
-    subst (λ (bytes : List ℕ). TellsHeld held (λ files. fetched files c.args.role c.args.name.now) (Ok bytes)) (sym c.from_vec.ensures)
+pub returns-in-Ok-Bytes-clause-said : goal.returns-in-Ok-Bytes-clause-said
+returns-in-Ok-Bytes-clause-said g c =
+    let held = (g.F.NamedFiles.state c.args.files.now).held in
+    subst (λ (bytes : List ℕ). IsSaidOf held (λ files. fetched files c.args.role c.args.name.now) (Ok bytes)) (sym c.from_vec.ensures)
     (told held c.args.role c.args.name.now c.limit_of.result c.in-Ok-Bytes.field-0 (reading.Bytes c.in-Ok-Bytes.bytes) c.limit_of.ensures.limit c.in-Ok-Bytes.field-0-is c.in-Ok-Bytes.ensures.answer)
 
-pub returns-in-Ok-Absent-clause-told : goal.returns-in-Ok-Absent-clause-told
-returns-in-Ok-Absent-clause-told g c =
-    told (g.F.Files.held c.args.files.now) c.args.role c.args.name.now c.limit_of.result c.in-Ok-Absent.field-0 reading.Absent c.limit_of.ensures.limit c.in-Ok-Absent.field-0-is c.in-Ok-Absent.ensures.answer
+pub returns-in-Ok-Absent-clause-said : goal.returns-in-Ok-Absent-clause-said
+returns-in-Ok-Absent-clause-said g c =
+    told ((g.F.NamedFiles.state c.args.files.now).held) c.args.role c.args.name.now c.limit_of.result c.in-Ok-Absent.field-0 reading.Absent c.limit_of.ensures.limit c.in-Ok-Absent.field-0-is c.in-Ok-Absent.ensures.answer
 
-pub returns-in-Ok-TooLarge-clause-told : goal.returns-in-Ok-TooLarge-clause-told
-returns-in-Ok-TooLarge-clause-told g c =
-    let held = g.F.Files.held c.args.files.now in
-    subst (λ (s : Status). TellsHeld {A = List ℕ} held (λ files. fetched files c.args.role c.args.name.now) (Err s)) (sym c.large_of.ensures.value)
+pub returns-in-Ok-TooLarge-clause-said : goal.returns-in-Ok-TooLarge-clause-said
+returns-in-Ok-TooLarge-clause-said g c =
+    let held = (g.F.NamedFiles.state c.args.files.now).held in
+    subst (λ (s : Status). IsSaidOf {A = List ℕ} held (λ files. fetched files c.args.role c.args.name.now) (Err s)) (sym c.large_of.ensures.value)
     (told held c.args.role c.args.name.now c.limit_of.result c.in-Ok-TooLarge.field-0 reading.TooLarge c.limit_of.ensures.limit c.in-Ok-TooLarge.field-0-is c.in-Ok-TooLarge.ensures.answer)
+
+pub returns-in-Ok-TooLarge-clause-stage : goal.returns-in-Ok-TooLarge-clause-stage
+returns-in-Ok-TooLarge-clause-stage g c = inner_stages {A = List ℕ} (Err c.large_of.result) c.large_of.ensures.inner
+
+pub returns-in-Ok-Absent-clause-causes : goal.returns-in-Ok-Absent-clause-causes
+returns-in-Ok-Absent-clause-causes g c = record { name = c.args.name.now; place = (refl, refl); risen = c.in-Ok-Absent.ensures.absent (ap Ok c.in-Ok-Absent.field-0-is) }
+
+pub returns-in-Ok-TooLarge-clause-causes : goal.returns-in-Ok-TooLarge-clause-causes
+returns-in-Ok-TooLarge-clause-causes g c =
+    inner_counts {A = List ℕ} (IsFile c.args.role c.args.name.now) (Err c.large_of.result) (g.F.NamedFiles.state c.args.files.now) (g.F.NamedFiles.state c.read_file.new.files) c.large_of.ensures.inner
+
+pub returns-in-Err-Failed-clause-causes : goal.returns-in-Err-Failed-clause-causes
+returns-in-Err-Failed-clause-causes g c =
+    (c.args.role, record { name = c.args.name.now; place = (refl, refl); risen = c.in-Err-Failed.ensures.failed (ap Err c.in-Err-Failed.field-0-is) })

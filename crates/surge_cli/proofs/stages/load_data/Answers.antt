@@ -1,22 +1,44 @@
 -- The nodes are read, and then the edges.
-use Rattle.std.proofs.Common.{List, ℕ, Option, Ok, Err, subst}
+use Rattle.std.proofs.Common.{List, ℕ, Option, Ok, Err, refl, subst}
 use Rattle.surge_cli.specs.declared.status.FileRole.TheVariants as role
 use Rattle.surge_cli.specs.Expected.{Held, fetched, graph_with}
-use Rattle.surge_cli.specs.Stages.{TellsHeld}
-use Rattle.surge_cli.proofs.Telling.{goes_on, stops}
+use Rattle.surge_cli.specs.Reaches.{IsFetched, ReachesData}
+use Rattle.surge_cli.specs.Stages.{IsFile, RisesBefore, IsSaidOf}
+use Rattle.surge_cli.proofs.GoingOn.{same_files, both_on}
+use Rattle.surge_cli.proofs.Reaching.{at_file, rises_so, stage_rises}
+use Rattle.surge_cli.proofs.Saying.{goes_on, stops}
 use Rattle.surge_cli.proofs.stages.load_data.Goals as goal
 
-pub returns-in-Ok-clause-told : goal.returns-in-Ok-clause-told
-returns-in-Ok-clause-told g c =
-    let held = g.F.Files.held c.args.files.now in
+pub returns-in-Ok-clause-said : goal.returns-in-Ok-clause-said
+returns-in-Ok-clause-said g c =
+    let held = (g.F.NamedFiles.state c.args.files.now).held in
     let script = c.args.script.now in
-    let behind = subst (λ (h : Option Held). TellsHeld h (λ files. graph_with files script c.as_slice.result.now) c.load_edges.result) c.fetch.ensures.held c.load_edges.ensures.told in
+    let behind = subst (λ (h : Option Held). IsSaidOf h (λ files. graph_with files script c.as_slice.result.now) c.load_edges.result) c.fetch.ensures.files.held c.load_edges.ensures.said in
     goes_on held (λ files. fetched files role.Nodes script.nodes) (λ files nodes. graph_with files script nodes) c.in-Ok.nodes c.load_edges.result
-    (subst (λ (name : List ℕ). TellsHeld held (λ files. fetched files role.Nodes name) (Ok c.in-Ok.nodes)) c.as_str.ensures c.in-Ok.ensures.told)
-    (subst (λ (nodes : List ℕ). TellsHeld held (λ files. graph_with files script nodes) c.load_edges.result) c.as_slice.ensures behind)
+    (subst (λ (name : List ℕ). IsSaidOf held (λ files. fetched files role.Nodes name) (Ok c.in-Ok.nodes)) c.as_str.ensures c.in-Ok.ensures.said)
+    (subst (λ (nodes : List ℕ). IsSaidOf held (λ files. graph_with files script nodes) c.load_edges.result) c.as_slice.ensures behind)
 
-pub returns-in-Err-clause-told : goal.returns-in-Err-clause-told
-returns-in-Err-clause-told g c =
-    let held = g.F.Files.held c.args.files.now in
+pub returns-in-Err-clause-said : goal.returns-in-Err-clause-said
+returns-in-Err-clause-said g c =
+    let held = (g.F.NamedFiles.state c.args.files.now).held in
     stops held (λ files. fetched files role.Nodes c.args.script.now.nodes) (λ files nodes. graph_with files c.args.script.now nodes) c.in-Err.status
-    (subst (λ (name : List ℕ). TellsHeld {A = List ℕ} held (λ files. fetched files role.Nodes name) (Err c.in-Err.status)) c.as_str.ensures c.in-Err.ensures.told)
+    (subst (λ (name : List ℕ). IsSaidOf {A = List ℕ} held (λ files. fetched files role.Nodes name) (Err c.in-Err.status)) c.as_str.ensures c.in-Err.ensures.said)
+
+pub returns-in-Ok-clause-files : goal.returns-in-Ok-clause-files
+returns-in-Ok-clause-files g c = both_on (g.F.NamedFiles.state c.args.files.now) (g.F.NamedFiles.state c.fetch.new.files) (g.F.NamedFiles.state c.load_edges.new.files) c.fetch.ensures.files c.load_edges.ensures.files
+
+pub returns-in-Ok-clause-causes : goal.returns-in-Ok-clause-causes
+returns-in-Ok-clause-causes g c =
+    let held = (g.F.NamedFiles.state c.args.files.now).held in
+    let script = c.args.script.now in
+    let nodes : IsFetched held role.Nodes script.nodes c.in-Ok.nodes = subst (λ (name : List ℕ). IsFetched held role.Nodes name c.in-Ok.nodes) c.as_str.ensures c.in-Ok.ensures.said in
+    stage_rises (IsFile role.Edges script.edges) (ReachesData held script) c.load_edges.result (g.F.NamedFiles.state c.args.files.now) (g.F.NamedFiles.state c.fetch.new.files) (g.F.NamedFiles.state c.load_edges.new.files)
+    (at_file (ReachesData held script) role.Edges script.edges (c.in-Ok.nodes, nodes, refl)) c.fetch.ensures.files c.load_edges.ensures.causes
+
+pub returns-in-Err-clause-causes : goal.returns-in-Err-clause-causes
+returns-in-Err-clause-causes g c =
+    let old = g.F.NamedFiles.state c.args.files.now in
+    let new = g.F.NamedFiles.state c.fetch.new.files in
+    let script = c.args.script.now in
+    rises_so (IsFile role.Nodes script.nodes) (ReachesData old.held script) c.in-Err.status old old new (at_file (ReachesData old.held script) role.Nodes script.nodes refl) (same_files old)
+    (subst (λ (name : List ℕ). RisesBefore (IsFile role.Nodes name) c.in-Err.status old new) c.as_str.ensures c.in-Err.ensures.causes)

@@ -1,4 +1,4 @@
--- What is answered is what alone is expected.
+-- What a stage answers is what alone is expected.
 use Rattle.std.proofs.Common.{◌≡◌, ◌∙◌, ℕ, List, Option, Some, None, Result, Ok, Err, refl, sym, ap, subst, inl, inr}
 use Rattle.gvdl_tree.specs.declared.script.Script.{Script}
 use Rattle.gvdl_parser.specs.declared.fault.ScriptFault.{ScriptFault}
@@ -7,14 +7,17 @@ use Rattle.surge_cli.specs.declared.status.Status.{Status}
 use Rattle.surge_cli.specs.declared.status.Status.TheVariants as status
 use Rattle.surge_cli.specs.declared.words.Task.{Task}
 use Rattle.surge_cli.specs.declared.words.Asked.{Asked}
-use Rattle.surge_cli.specs.Words.{script_asked}
+use Rattle.surge_cli.specs.declared.words.CommandLine.{CommandLine}
+use Rattle.surge_cli.specs.declared.words.CommandLine.TheVariants as line
+use Rattle.surge_cli.specs.Words.{command_line}
 use Rattle.surge_cli.specs.Expected.{Held, Expectation, job_for, ExpectsOfText, ExpectsOfFile, ExpectsAsked, Expects, IsOnly}
-use Rattle.surge_cli.specs.Stages.{Tells, TellsHeld, Meets, MeetsHeld, IsTheScript, IsTheFault, StopsParse, HasScript, StopsScript, StopsWords}
+use Rattle.surge_cli.specs.Reaches.{IsTheScript, HasScript}
+use Rattle.surge_cli.specs.Stages.{IsSaid, IsSaidOf, IsExpected, IsExpectedOf, IsTheFault, StopsParse, StopsScript, StopsWords}
 
 only_map : (P Q : Expectation → Type 0) (e : Expectation) → ((x : Expectation) → P x → Q x) → ((x : Expectation) → Q x → P x) → IsOnly P e → IsOnly Q e
 only_map P Q e to back h = record { holds = to e h.holds; only = λ other k. h.only other (back other k) }
 
-meets_map : (P Q : Expectation → Type 0) (r : Expectation) → ((x : Expectation) → P x → Q x) → ((x : Expectation) → Q x → P x) → Meets P r → Meets Q r
+meets_map : (P Q : Expectation → Type 0) (r : Expectation) → ((x : Expectation) → P x → Q x) → ((x : Expectation) → Q x → P x) → IsExpected P r → IsExpected Q r
 meets_map P Q (Ok job) to back h = only_map P Q (Ok job) to back h
 meets_map P Q (Err s) to back (inl outside) = inl outside
 meets_map P Q (Err s) to back (inr h) = inr (only_map P Q (Err s) to back h)
@@ -23,7 +26,7 @@ meets_map P Q (Err s) to back (inr h) = inr (only_map P Q (Err s) to back h)
 only_said : (said e : Expectation) → said ≡ e → IsOnly (λ x. x ≡ said) e
 only_said said e is = record { holds = sym is; only = λ other k. k ∙ is }
 
-meets_said : (said r : Expectation) → Tells said r → Meets (λ x. x ≡ said) r
+meets_said : (said r : Expectation) → IsSaid said r → IsExpected (λ x. x ≡ said) r
 meets_said said (Ok job) is = only_said said (Ok job) is
 meets_said said (Err s) (inl outside) = inl outside
 meets_said said (Err s) (inr is) = inr (only_said said (Err s) is)
@@ -41,7 +44,7 @@ fault_only : (files : Held) (task : Task) (text : List ℕ) (fault : ScriptFault
 fault_only files task text fault the e (inl h) = absurd (the.none h.0 h.1)
 fault_only files task text fault the e (inr h) = h.2 ∙ ap (λ (f : ScriptFault). Err (status.Script f)) (the.only h.0 h.1)
 
-parse_stops : (files : Held) (task : Task) (text : List ℕ) (s : Status) → StopsParse text s → Meets (ExpectsOfText files task text) (Err s)
+parse_stops : (files : Held) (task : Task) (text : List ℕ) (s : Status) → StopsParse text s → IsExpected (ExpectsOfText files task text) (Err s)
 parse_stops files task text status.Done h = absurd h
 parse_stops files task text status.Usage h = absurd h
 parse_stops files task text (status.Absent role) h = absurd h
@@ -55,40 +58,40 @@ parse_stops files task text (status.NotBuilt what) h = absurd h
 -- ---- the file of the script
 
 -- the script was read, and the job over its data is as said
-pub asked_goes_on : (held : Option Held) (asked : Asked) (script : Script) (r : Expectation) → HasScript held asked.script script → TellsHeld held (λ files. job_for files asked.task script) r → MeetsHeld held (λ files. ExpectsAsked files (Some (Some asked))) r
+pub asked_goes_on : (held : Option Held) (asked : Asked) (script : Script) (r : Expectation) → HasScript held asked.script script → IsSaidOf held (λ files. job_for files asked.task script) r → IsExpectedOf held (λ files. ExpectsAsked files (line.Asked asked)) r
 asked_goes_on None asked script r has h = tt
 asked_goes_on (Some files) asked script r has h =
     let text = has.text in
     let job = job_for files asked.task script in
-    subst (λ (x : Result (List ℕ) Status). Meets (ExpectsOfFile files asked.task x) r) (sym has.is_text)
+    subst (λ (x : Result (List ℕ) Status). IsExpected (ExpectsOfFile files asked.task x) r) (sym has.is_text)
     (meets_map (λ e. e ≡ job) (ExpectsOfText files asked.task text) r (to_text files asked.task text script has.the_script) (from_text files asked.task text script has.the_script) (meets_said job r h))
 
 -- the script was not read
-pub asked_stops : (held : Option Held) (asked : Asked) (s : Status) → StopsScript held asked.script s → MeetsHeld held (λ files. ExpectsAsked files (Some (Some asked))) (Err s)
+pub asked_stops : (held : Option Held) (asked : Asked) (s : Status) → StopsScript held asked.script s → IsExpectedOf held (λ files. ExpectsAsked files (line.Asked asked)) (Err s)
 asked_stops None asked s h = tt
 asked_stops (Some files) asked s (inl (inl outside)) = inl outside
 asked_stops (Some files) asked s (inl (inr is)) = inr (subst (λ (x : Result (List ℕ) Status). IsOnly (ExpectsOfFile files asked.task x) (Err s)) (sym is) (record { holds = refl; only = λ other k. k }))
-asked_stops (Some files) asked s (inr h) = subst (λ (x : Result (List ℕ) Status). Meets (ExpectsOfFile files asked.task x) (Err s)) (sym h.1) (parse_stops files asked.task h.0 s h.2)
+asked_stops (Some files) asked s (inr h) = subst (λ (x : Result (List ℕ) Status). IsExpected (ExpectsOfFile files asked.task x) (Err s)) (sym h.1) (parse_stops files asked.task h.0 s h.2)
 
 -- ---- the words
 
 -- what is expected of what the words ask for is expected of the words
-pub words_go_on : (held : Option Held) (words : List (List ℕ)) (asked : Option (Option Asked)) (r : Expectation) → script_asked words ≡ asked → MeetsHeld held (λ files. ExpectsAsked files asked) r → MeetsHeld held (λ files. Expects files words) r
-words_go_on held words asked r is h = subst (λ (a : Option (Option Asked)). MeetsHeld held (λ files. ExpectsAsked files a) r) (sym is) h
+pub words_go_on : (held : Option Held) (words : List (List ℕ)) (asked : CommandLine) (r : Expectation) → command_line words ≡ asked → IsExpectedOf held (λ files. ExpectsAsked files asked) r → IsExpectedOf held (λ files. Expects files words) r
+words_go_on held words asked r is h = subst (λ (a : CommandLine). IsExpectedOf held (λ files. ExpectsAsked files a) r) (sym is) h
 
-words_only : (files : Held) (words : List (List ℕ)) (asked : Option (Option Asked)) (s : Status) → script_asked words ≡ asked → IsOnly (ExpectsAsked files asked) (Err s) → Meets (Expects files words) (Err s)
-words_only files words asked s is h = inr (subst (λ (a : Option (Option Asked)). IsOnly (ExpectsAsked files a) (Err s)) (sym is) h)
+words_only : (files : Held) (words : List (List ℕ)) (asked : CommandLine) (s : Status) → command_line words ≡ asked → IsOnly (ExpectsAsked files asked) (Err s) → IsExpected (Expects files words) (Err s)
+words_only files words asked s is h = inr (subst (λ (a : CommandLine). IsOnly (ExpectsAsked files a) (Err s)) (sym is) h)
 
 -- why the reading of the words stopped is what alone is expected of them
-pub words_stop : (held : Option Held) (words : List (List ℕ)) (s : Status) → StopsWords words s → MeetsHeld held (λ files. Expects files words) (Err s)
+pub words_stop : (held : Option Held) (words : List (List ℕ)) (s : Status) → StopsWords words s → IsExpectedOf held (λ files. Expects files words) (Err s)
 words_stop None words s h = tt
 words_stop (Some files) words status.Done h = absurd h
-words_stop (Some files) words status.Usage h = words_only files words None status.Usage h (record { holds = refl; only = λ other k. k })
+words_stop (Some files) words status.Usage h = words_only files words line.NotOfForm status.Usage h (record { holds = refl; only = λ other k. k })
 words_stop (Some files) words (status.Absent role) h = absurd h
 words_stop (Some files) words (status.Data fault) h = absurd h
 words_stop (Some files) words (status.Script fault) h = absurd h
 words_stop (Some files) words status.ReadFault h = absurd h
 words_stop (Some files) words status.WriteFault h = absurd h
 words_stop (Some files) words status.NoMemory h = inl tt
-words_stop (Some files) words (status.NotBuilt unbuilt.Words) h = words_only files words (Some None) (status.NotBuilt unbuilt.Words) h (record { holds = refl; only = λ other k. k })
+words_stop (Some files) words (status.NotBuilt unbuilt.Words) h = words_only files words line.NotBuilt (status.NotBuilt unbuilt.Words) h (record { holds = refl; only = λ other k. k })
 words_stop (Some files) words (status.NotBuilt (unbuilt.Statement n)) h = absurd h

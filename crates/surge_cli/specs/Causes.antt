@@ -1,0 +1,80 @@
+-- When a status may come, whatever the files tell, and what is reported of it.
+use Rattle.std.specs.Prelude.{◌≡◌, ◌⊎◌, ℕ, List, Ok, Err}
+use Rattle.surge_outside.specs.Counts.{HasRisen}
+use Rattle.surge_outside.specs.Written.{appended, GrewByFront}
+use Rattle.surge_cli.specs.declared.status.FileRole.{FileRole}
+use Rattle.surge_cli.specs.declared.status.Unbuilt.TheVariants as unbuilt
+use Rattle.surge_cli.specs.declared.status.Status.{Status}
+use Rattle.surge_cli.specs.declared.status.Status.TheVariants as status
+use Rattle.surge_cli.specs.declared.words.CommandLine.{CommandLine}
+use Rattle.surge_cli.specs.declared.words.CommandLine.TheVariants as line
+use Rattle.surge_cli.specs.declared.job.Job.{Job}
+use Rattle.surge_cli.specs.FilesState.{FilesState}
+use Rattle.surge_cli.specs.StatusText.{status_line}
+use Rattle.surge_cli.specs.Expected.{Expectation}
+use Rattle.surge_cli.specs.Headline.{Written}
+
+-- ---- the words
+
+-- a status that does not come from the words
+abbrev pub IsLater : Status → Type 0
+IsLater status.Usage = ⊥
+IsLater (status.NotBuilt unbuilt.Words) = ⊥
+IsLater _ = Unit {0}
+
+-- a status to these words, whatever the files do: words that are not of the form are answered Usage and no others are, but
+-- for want of memory; and likewise for words that ask for what is not built yet
+abbrev pub OfWords : CommandLine → Status → Type 0
+OfWords line.NotOfForm s = (s ≡ status.Usage) ⊎ (s ≡ status.NoMemory)
+OfWords line.NotBuilt s = (s ≡ status.NotBuilt unbuilt.Words) ⊎ (s ≡ status.NoMemory)
+OfWords (line.Asked asked) s = IsLater s
+
+-- the words name no script
+abbrev pub NamesNone : CommandLine → Type 0
+NamesNone (line.Asked asked) = ⊥
+NamesNone _ = Unit {0}
+
+-- ---- the counts
+
+-- the counts of the ends: of files that were absent and of reads that failed, by name, and of writes that failed
+pub record Counts : Type 0 where
+  pub absences : List ℕ → ℕ
+  pub faults : List ℕ → ℕ
+  pub writes : ℕ
+
+abbrev pub counts : FilesState → ℕ → Counts
+counts files writes = record { absences = files.absences; faults = files.faults; writes = writes }
+
+-- the file of this role and some name is in its place, and the count of this name rose
+pub record RisesAt (InPlace : FileRole → List ℕ → Type 0) (role : FileRole) (old new : List ℕ → ℕ) : Type 0 where
+  pub name : List ℕ
+  pub place : InPlace role name
+  pub risen : HasRisen (old name) (new name)
+
+-- an absence, a read fault or a write fault comes only where its count rose: that of a file in its place
+abbrev pub Causes : (FileRole → List ℕ → Type 0) → Status → (old new : Counts) → Type 0
+Causes InPlace (status.Absent role) old new = RisesAt InPlace role old.absences new.absences
+Causes InPlace status.ReadFault old new = (role : FileRole) × RisesAt InPlace role old.faults new.faults
+Causes InPlace status.WriteFault old new = HasRisen old.writes new.writes
+Causes InPlace _ old new = Unit {0}
+
+-- ---- what is expected
+
+-- the status is the one that is expected, or it came from the outside
+abbrev pub AgreesWith : Status → Expectation → Type 0
+AgreesWith status.Done e = (job : Job) × (e ≡ Ok job)
+AgreesWith status.Usage e = e ≡ Err status.Usage
+AgreesWith (status.Absent role) e = e ≡ Err (status.Absent role)
+AgreesWith (status.Data fault) e = e ≡ Err (status.Data fault)
+AgreesWith (status.Script fault) e = e ≡ Err (status.Script fault)
+AgreesWith (status.NotBuilt what) e = e ≡ Err (status.NotBuilt what)
+AgreesWith _ e = Unit {0}
+
+-- ---- what is reported
+
+-- what was written to standard error: nothing where the run is done; one line, or a front of it where its sink failed;
+-- and a front of one line where memory was wanting
+abbrev pub Reports : Status → (old new : Written) → (faults faults_after : ℕ) → Type 0
+Reports status.Done old new f g = new ≡ old
+Reports status.NoMemory old new f g = (s : Status) × GrewByFront old new (status_line s)
+Reports s old new f g = (new ≡ appended old (status_line s)) ⊎ (HasRisen f g × GrewByFront old new (status_line s))

@@ -1,0 +1,56 @@
+-- The headline: what each status means, and what was written to the output by then.
+use Rattle.std.specs.Prelude.{◌≡◌, ◌⊎◌, ℕ, List, Option, Some, None, Ok, Err}
+use Rattle.surge_outside.specs.Written.{appended, GrewByFront}
+use Rattle.vertex_lang.specs.Expressions.{Answer}
+use Rattle.surge_cli.specs.declared.status.Status.{Status}
+use Rattle.surge_cli.specs.declared.status.Status.TheVariants as status
+use Rattle.surge_cli.specs.declared.words.Task.{Task}
+use Rattle.surge_cli.specs.declared.words.CommandLine.{CommandLine}
+use Rattle.surge_cli.specs.declared.words.CommandLine.TheVariants as line
+use Rattle.surge_cli.specs.declared.job.Job.{Job}
+use Rattle.surge_cli.specs.Words.{command_line}
+use Rattle.surge_cli.specs.Output.{output}
+use Rattle.surge_cli.specs.Expected.{Held, Expects, IsOnly}
+
+-- what was written before and after, where it is told
+abbrev pub Written : Type 0
+Written = Option (List ℕ)
+
+-- the words ask for this of a script
+abbrev pub AsksFor : CommandLine → Task → Type 0
+AsksFor (line.Asked asked) task = asked.task ≡ task
+AsksFor _ task = ⊥
+
+-- this job, and nothing else, is expected; or, where the files don't tell what they hold, the words ask for its task
+abbrev pub IsDue : Option Held → List (List ℕ) → Job → Type 0
+IsDue (Some held) words job = IsOnly (Expects held words) (Ok job)
+IsDue None words job = AsksFor (command_line words) job.task
+
+-- this refusal, and nothing else, is expected, where the files tell what they hold
+abbrev pub IsRefusal : Option Held → List (List ℕ) → Status → Type 0
+IsRefusal (Some held) words s = IsOnly (Expects held words) (Err s)
+IsRefusal None words s = Unit {0}
+
+-- a job is due, and all that it prints was written; `answer` is the updater's
+pub record Prints (answer : Answer) (held : Option Held) (words : List (List ℕ)) (old new : Written) : Type 0 where
+  pub job : Job
+  pub due : IsDue held words job
+  pub printed : new ≡ appended old (output answer job)
+
+-- a job is due, and a front of what it prints was written
+pub record PrintsFront (answer : Answer) (held : Option Held) (words : List (List ℕ)) (old new : Written) : Type 0 where
+  pub job : Job
+  pub due : IsDue held words job
+  pub printed : GrewByFront old new (output answer job)
+
+-- what a status means
+abbrev pub Means : Answer → Option Held → List (List ℕ) → Status → (old new : Written) → Type 0
+Means answer held words status.Done old new = Prints answer held words old new
+Means answer held words status.Usage old new = IsRefusal held words status.Usage × (new ≡ old)
+Means answer held words (status.Absent role) old new = IsRefusal held words (status.Absent role) × (new ≡ old)
+Means answer held words (status.Data fault) old new = IsRefusal held words (status.Data fault) × (new ≡ old)
+Means answer held words (status.Script fault) old new = IsRefusal held words (status.Script fault) × (new ≡ old)
+Means answer held words status.ReadFault old new = new ≡ old
+Means answer held words status.WriteFault old new = PrintsFront answer held words old new
+Means answer held words status.NoMemory old new = (new ≡ old) ⊎ PrintsFront answer held words old new
+Means answer held words (status.NotBuilt what) old new = IsRefusal held words (status.NotBuilt what) × (new ≡ old)
