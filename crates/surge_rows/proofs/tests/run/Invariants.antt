@@ -1,5 +1,5 @@
 -- The counter is over the ledger that the run makes.
 use Rattle.surge_rows.proofs.tests.run.Given as goal
 
-abbrev pub ghosts-run_counted : goal.ghosts-run_memory
+abbrev pub ghosts-run_counted : goal.ghosts-run_counted
 ghosts-run_counted a = record { name = a.blank.name; parts = a.blank.parts }
