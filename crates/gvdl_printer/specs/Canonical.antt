@@ -63,7 +63,7 @@ operand_pieces (operand.Src f) = word w.Src ∷ sign s.Dot ∷ field_piece f ∷
 operand_pieces (operand.Dst f) = word w.Dst ∷ sign s.Dot ∷ field_piece f ∷ []
 operand_pieces (operand.Edge p) = prop_piece p ∷ []
 
--- A place takes any predicate (0), no chain of `or` (1), or no chain (2).
+-- The number of a place is how tightly it binds: alone 0, a member of `or` 1, a member of `and` or behind `not` 2.
 abbrev pub written_predicate : PredTree-F (ℕ → List Piece) → ℕ → List Piece
 written_predicate (PredTree-F.Or members) place = enclosed (nat_lt 0 place) (joined (word w.Or) (λ p. p 1) members)
 written_predicate (PredTree-F.And members) place = enclosed (nat_lt 1 place) (joined (word w.And) (λ p. p 2) members)
@@ -81,7 +81,8 @@ abbrev pub written_test : Test-F (ℕ → List Piece) (List Piece) → List Piec
 written_test (Test-F.Compare a c b) = a 1 ++ plain (cmp_token c) ∷ b 1
 written_test (Test-F.IsNil a) = a 1 ++ word w.Is ∷ word w.None ∷ []
 
--- A place takes any expression (0), no `if` and no chain of `else` (1), no sum either (2), or no chain at all (3).
+-- The number of a place is how tightly it binds: alone 0, a branch or a side of a test 1, a member of a sum 2, a member of a
+-- product or behind `-` 3.
 abbrev pub written_expression : ExprTree-F (ℕ → List Piece) (List Piece) → ℕ → List Piece
 written_expression (ExprTree-F.If tests a b) place = enclosed (nat_lt 0 place) (word w.If ∷ (joined (word w.And) (λ test. test) tests ++ word w.Then ∷ (a 1 ++ word w.Else ∷ b 0)))
 written_expression (ExprTree-F.Else members) place = enclosed (nat_lt 0 place) (joined (word w.Else) (λ a. a 1) members)

@@ -7,58 +7,60 @@ ghost use Rattle.gvdl_tokens.specs.declared.token.Sign.{Sign};
 ghost use Rattle.gvdl_parser.specs.Terminals.{term_token, factor_token};
 ghost use Rattle.gvdl_printer.specs.Layout.{plain, word, sign, call_open};
 ghost use Rattle.gvdl_printer.specs.Canonical.{expression_pieces, test_pieces, joined, prop_piece};
+ghost use Rattle.gvdl_printer.specs.Levels.{expression_level};
 ghost use Rattle.gvdl_printer.specs.Pages.{wrote};
 
 use crate::leaf::{comparison, factor_sign, prop, term_sign, value_word};
 use crate::page::Page;
+use crate::place::ExpressionPlace;
 use gvdl_tokens::{Sign, Word};
 use gvdl_tree::{ExprTree, Test};
 use std::alloc::Global;
 use surge_outside::{NoMemory, Text};
 
-/// An expression, in a place that takes any expression (0), no `if` and no chain of `else` (1), no sum either (2), or no
-/// chain at all (3).
+/// An expression, in parentheses where its place wants them.
 #[tactic(auto, using(crate::proofs::Growing::growing))]
 #[cycle(expression)]
 pub fn expression(
     alloc: Global,
     page: &mut Page,
     tree: &ExprTree,
-    place: u8,
+    place: ExpressionPlace,
 ) -> Result<(), NoMemory>
-    ensures { IfOk result (λ _. page.new ≡ wrote page.old (expression_pieces tree.now place)) }
+    ensures { IfOk result (λ _. page.new ≡ wrote page.old (expression_pieces tree.now (expression_level place))) }
 {
+    let level = place.level();
     match tree {
         ExprTree::If(tests, first, second) => {
-            page.open(place > 0)?;
+            page.open(level > 0)?;
             page.word(Word::If)?;
             condition(alloc, page, tests.as_slice())?;
             page.word(Word::Then)?;
-            expression(alloc, page, first.get(), 1)?;
+            expression(alloc, page, first.get(), ExpressionPlace::Branch)?;
             page.word(Word::Else)?;
-            expression(alloc, page, second.get(), 0)?;
-            page.close(place > 0)
+            expression(alloc, page, second.get(), ExpressionPlace::Alone)?;
+            page.close(level > 0)
         }
         ExprTree::Else(members) => {
-            page.open(place > 0)?;
+            page.open(level > 0)?;
             else_chain(alloc, page, members.as_slice())?;
-            page.close(place > 0)
+            page.close(level > 0)
         }
         ExprTree::Sum(first, others) => {
-            page.open(place > 1)?;
-            expression(alloc, page, first.get(), 2)?;
+            page.open(level > 1)?;
+            expression(alloc, page, first.get(), ExpressionPlace::Term)?;
             terms(alloc, page, others.as_slice())?;
-            page.close(place > 1)
+            page.close(level > 1)
         }
         ExprTree::Product(first, others) => {
-            page.open(place > 2)?;
-            expression(alloc, page, first.get(), 3)?;
+            page.open(level > 2)?;
+            expression(alloc, page, first.get(), ExpressionPlace::Factor)?;
             factors(alloc, page, others.as_slice())?;
-            page.close(place > 2)
+            page.close(level > 2)
         }
         ExprTree::Minus(inner) => {
             page.negative_sign()?;
-            expression(alloc, page, inner.get(), 3)
+            expression(alloc, page, inner.get(), ExpressionPlace::Factor)
         }
         ExprTree::Number(number) => page.number(alloc, *number),
         ExprTree::Nil => page.word(Word::None),
@@ -68,16 +70,16 @@ pub fn expression(
         ExprTree::Param(name) => page.name(name),
         ExprTree::Least(first, second) => {
             extreme_open(page, Word::Min)?;
-            expression(alloc, page, first.get(), 0)?;
+            expression(alloc, page, first.get(), ExpressionPlace::Alone)?;
             page.sign(Sign::Comma)?;
-            expression(alloc, page, second.get(), 0)?;
+            expression(alloc, page, second.get(), ExpressionPlace::Alone)?;
             page.sign(Sign::Close)
         }
         ExprTree::Most(first, second) => {
             extreme_open(page, Word::Max)?;
-            expression(alloc, page, first.get(), 0)?;
+            expression(alloc, page, first.get(), ExpressionPlace::Alone)?;
             page.sign(Sign::Comma)?;
-            expression(alloc, page, second.get(), 0)?;
+            expression(alloc, page, second.get(), ExpressionPlace::Alone)?;
             page.sign(Sign::Close)
         }
     }
@@ -128,12 +130,12 @@ fn test(alloc: Global, page: &mut Page, tested: &Test) -> Result<(), NoMemory>
 {
     match tested {
         Test::Compare(first, cmp, second) => {
-            expression(alloc, page, first, 1)?;
+            expression(alloc, page, first, ExpressionPlace::Branch)?;
             comparison(page, *cmp)?;
-            expression(alloc, page, second, 1)
+            expression(alloc, page, second, ExpressionPlace::Branch)
         }
         Test::IsNil(first) => {
-            expression(alloc, page, first, 1)?;
+            expression(alloc, page, first, ExpressionPlace::Branch)?;
             page.word(Word::Is)?;
             page.word(Word::None)
         }
@@ -149,10 +151,10 @@ fn else_chain(alloc: Global, page: &mut Page, members: &[ExprTree]) -> Result<()
     match members {
         [] => Ok(()),
         [first, others @ ..] => {
-            expression(alloc, page, first, 1)?;
+            expression(alloc, page, first, ExpressionPlace::Branch)?;
             for other in others {
                 page.word(Word::Else)?;
-                expression(alloc, page, other, 1)?;
+                expression(alloc, page, other, ExpressionPlace::Branch)?;
             }
             Ok(())
         }
@@ -167,7 +169,7 @@ fn terms(alloc: Global, page: &mut Page, others: &[(bool, ExprTree)]) -> Result<
 {
     for (plus, other) in others {
         term_sign(page, *plus)?;
-        expression(alloc, page, other, 2)?;
+        expression(alloc, page, other, ExpressionPlace::Term)?;
     }
     Ok(())
 }
@@ -180,7 +182,7 @@ fn factors(alloc: Global, page: &mut Page, others: &[(bool, ExprTree)]) -> Resul
 {
     for (times, other) in others {
         factor_sign(page, *times)?;
-        expression(alloc, page, other, 3)?;
+        expression(alloc, page, other, ExpressionPlace::Factor)?;
     }
     Ok(())
 }

@@ -12,6 +12,7 @@
 mod expression;
 mod leaf;
 mod page;
+mod place;
 mod predicate;
 mod printer;
 mod program;

@@ -3,35 +3,55 @@
 ghost use Rattle.std.specs.Prelude.{◌≡◌, ◌∷◌, [], IfOk};
 ghost use Rattle.gvdl_printer.specs.Layout.{word};
 ghost use Rattle.gvdl_printer.specs.Canonical.{predicate_pieces, joined};
+ghost use Rattle.gvdl_printer.specs.Levels.{predicate_level};
 ghost use Rattle.gvdl_printer.specs.Pages.{wrote};
 
 use crate::leaf::{comparison, operand, truth};
 use crate::page::Page;
+use crate::place::PredicatePlace;
 use gvdl_tokens::Word;
 use gvdl_tree::PredTree;
 use std::alloc::Global;
 use surge_outside::NoMemory;
 
-/// A predicate, in a place that takes any predicate (0), no chain of `or` (1), or no chain (2).
+/// A predicate, in parentheses where its place wants them.
 #[tactic(auto, using(crate::proofs::Growing::growing))]
 #[cycle(predicate)]
-pub fn predicate(alloc: Global, page: &mut Page, tree: &PredTree, place: u8) -> Result<(), NoMemory>
-    ensures { IfOk result (λ _. page.new ≡ wrote page.old (predicate_pieces tree.now place)) }
+pub fn predicate(
+    alloc: Global,
+    page: &mut Page,
+    tree: &PredTree,
+    place: PredicatePlace,
+) -> Result<(), NoMemory>
+    ensures { IfOk result (λ _. page.new ≡ wrote page.old (predicate_pieces tree.now (predicate_level place))) }
 {
+    let level = place.level();
     match tree {
         PredTree::Or(members) => {
-            page.open(place > 0)?;
-            chain(alloc, page, members.as_slice(), Word::Or, 1)?;
-            page.close(place > 0)
+            page.open(level > 0)?;
+            chain(
+                alloc,
+                page,
+                members.as_slice(),
+                Word::Or,
+                PredicatePlace::OrMember,
+            )?;
+            page.close(level > 0)
         }
         PredTree::And(members) => {
-            page.open(place > 1)?;
-            chain(alloc, page, members.as_slice(), Word::And, 2)?;
-            page.close(place > 1)
+            page.open(level > 1)?;
+            chain(
+                alloc,
+                page,
+                members.as_slice(),
+                Word::And,
+                PredicatePlace::AndMember,
+            )?;
+            page.close(level > 1)
         }
         PredTree::Not(inner) => {
             page.word(Word::Not)?;
-            predicate(alloc, page, inner.get(), 2)
+            predicate(alloc, page, inner.get(), PredicatePlace::AndMember)
         }
         PredTree::Constant(value) => truth(page, *value),
         PredTree::Compare(first, cmp, second) => {
@@ -55,9 +75,9 @@ fn chain(
     page: &mut Page,
     members: &[PredTree],
     between: Word,
-    place: u8,
+    place: PredicatePlace,
 ) -> Result<(), NoMemory>
-    ensures { IfOk result (λ _. page.new ≡ wrote page.old (joined (word between) (λ p. predicate_pieces p place) members.now)) }
+    ensures { IfOk result (λ _. page.new ≡ wrote page.old (joined (word between) (λ p. predicate_pieces p (predicate_level place)) members.now)) }
 {
     match members {
         [] => Ok(()),

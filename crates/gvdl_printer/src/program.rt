@@ -12,6 +12,7 @@ ghost use Rattle.gvdl_printer.specs.Pages.{wrote};
 
 use crate::expression::expression;
 use crate::page::Page;
+use crate::place::ExpressionPlace;
 use crate::view::named;
 use gvdl_tokens::{Sign, Word};
 use gvdl_tree::{Along, ExprTree, Gather};
@@ -75,7 +76,7 @@ fn part(alloc: Global, page: &mut Page, keyword: Word, tree: &ExprTree) -> Resul
     ensures { IfOk result (λ _. page.new ≡ wrote page.old (word keyword ∷ (expression_pieces tree.now 0 ++ sign Sign.Semicolon ∷ []))) }
 {
     page.word(keyword)?;
-    expression(alloc, page, tree, 0)?;
+    expression(alloc, page, tree, ExpressionPlace::Alone)?;
     page.sign(Sign::Semicolon)
 }
 

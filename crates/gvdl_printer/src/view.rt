@@ -12,6 +12,7 @@ ghost use Rattle.gvdl_printer.specs.Pages.{wrote};
 
 use crate::leaf::{int, prop};
 use crate::page::Page;
+use crate::place::PredicatePlace;
 use crate::predicate::predicate;
 use gvdl_tokens::{Sign, Word};
 use gvdl_tree::{Item, ItemBody, PredTree};
@@ -70,7 +71,7 @@ pub fn single(
     named(page, Word::On, base)?;
     page.word(Word::Edges)?;
     page.word(Word::Where)?;
-    predicate(alloc, page, rule, 0)?;
+    predicate(alloc, page, rule, PredicatePlace::Alone)?;
     page.sign(Sign::Semicolon)
 }
 
@@ -137,7 +138,7 @@ fn item_body(alloc: Global, page: &mut Page, body: &ItemBody) -> Result<(), NoMe
     ensures { IfOk result (λ _. page.new ≡ wrote page.old (body_pieces body.now)) }
 {
     match body {
-        ItemBody::Rule(rule) => predicate(alloc, page, rule, 0),
+        ItemBody::Rule(rule) => predicate(alloc, page, rule, PredicatePlace::Alone),
         ItemBody::Window {
             prop: property,
             first,

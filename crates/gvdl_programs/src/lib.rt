@@ -1,7 +1,7 @@
 //! Vertex programs of a script against a graph: the programs that a script writes, and the calls of programs.
 //!
 //! It stands on the trees of `gvdl_tree`, the columns of `graph_model`, the programs of `vertex_lang` and the built-in ones of
-//! `graph_algos`. It offers [`declare`], which judges a written program and keeps it with its properties as columns and its
+//! `graph_algos`. It offers [`declare`], which judges a written program ([`WrittenProgram`]) and keeps it with its properties as columns and its
 //! parameters by their places ([`ProgramTemplate`]); and [`call`], which judges the arguments of a call and makes the
 //! [`Program`](vertex_lang::Program) that is run. It says what it is to judge, too: to give a value or the first
 //! [`Refusal`], and how a property's column is found ([`column_of`], [`int_column`]).
@@ -23,4 +23,4 @@ pub use arguments::call;
 pub use column::{column_of, int_column};
 pub use refusal::{Refusal, Stop};
 pub use template::{Callable, CheckTemplate, ExprTemplate, ProgramTemplate};
-pub use written::declare;
+pub use written::{WrittenProgram, declare};

@@ -36,6 +36,17 @@ fn gathering(gather: Gather) -> ProgramGather
     }
 }
 
+/// A program as a script writes it: the names of its parameters, and its parts.
+#[derive(Clone, Copy)]
+pub struct WrittenProgram<'a> {
+    pub parameters: &'a [Text],
+    pub along: Along,
+    pub start: &'a ExprTree,
+    pub send: &'a ExprTree,
+    pub gather: Gather,
+    pub update: &'a ExprTree,
+}
+
 /// A program that a script writes, judged against a graph: its parameters from the left, then the start, the message and
 /// the update. It takes time in proportion to the program's length.
 ///
@@ -47,26 +58,21 @@ fn gathering(gather: Gather) -> ProgramGather
 pub fn declare(
     alloc: Global,
     graph: &Graph,
-    names: &[Text],
-    along: Along,
-    start: &ExprTree,
-    send: &ExprTree,
-    gather: Gather,
-    update: &ExprTree,
+    written: &WrittenProgram,
 ) -> Result<ProgramTemplate, Stop>
-    ensures told { Tells (declared graph.now names.now along start.now send.now gather update.now) result }
+    ensures told { Tells (declared graph.now written.now.parameters.now written.now.along written.now.start.now written.now.send.now written.now.gather written.now.update.now) result }
     ensures fits { IfOk result (λ t. TemplateFits graph.now t) }
 {
-    let parameters = Parameters::of(alloc, names)?;
-    let start = expression(alloc, graph, Part::Start, &parameters, start)?;
-    let send = expression(alloc, graph, Part::Send, &parameters, send)?;
-    let update = expression(alloc, graph, Part::Update, &parameters, update)?;
+    let parameters = Parameters::of(alloc, written.parameters)?;
+    let start = expression(alloc, graph, Part::Start, &parameters, written.start)?;
+    let send = expression(alloc, graph, Part::Send, &parameters, written.send)?;
+    let update = expression(alloc, graph, Part::Update, &parameters, written.update)?;
     Ok(ProgramTemplate {
-        parameters: names.len(),
-        along: direction(along),
+        parameters: written.parameters.len(),
+        along: direction(written.along),
         start,
         send,
-        gather: gathering(gather),
+        gather: gathering(written.gather),
         update,
     })
 }
