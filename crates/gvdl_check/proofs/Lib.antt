@@ -1,10 +1,8 @@
 pub mod NameFacts
 pub mod PredicateCases
-pub mod RuleFacts
-pub mod ViewFacts
-pub mod PlanFacts
+pub mod SingleFacts
+pub mod AppendFacts
 pub mod PlanAnswers
 pub mod WindowFacts
 pub mod SizeFacts
-pub mod Growth
 pub mod PlanSteps

@@ -1,5 +1,5 @@
 -- A script has fewer statements than its text has bytes.
-use Rattle.std.proofs.Common.{◌≡◌, ℕ, ◌+◌, ◌≤◌, ◌<◌, ◌^◌, List, [], ◌∷◌, ◌++◌, length, drop, ap, inl, inr, arith, length-append, length-drop, if◌then◌else◌, ◌⊎◌, Bool, true, false}
+use Rattle.std.proofs.Common.{◌≡◌, ℕ, ◌≤◌, ◌<◌, ◌^◌, List, [], ◌∷◌, ◌++◌, length, drop, ap, inl, inr, arith, length-append, length-drop, if◌then◌else◌, ◌⊎◌, Bool, true, false}
 use Rattle.std.specs.Prelude.{nat_eq}
 use Rattle.std.specs.List.{starts_with}
 use Rattle.phrase_theory.specs.Phrases.{◌∣◌, Then, Either, word, many}

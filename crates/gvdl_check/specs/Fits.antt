@@ -1,12 +1,16 @@
--- What holds of every plan that is made for a graph.
-use Rattle.std.specs.Prelude.{◌≡◌, ℕ, ◌<◌, ◌≤◌, Bool, true, nat_lt, IsTrue, All, List, [], ◌∷◌, length}
-use Rattle.std.specs.List.{list_all}
+-- What holds of every plan that is made for a graph, and of what is known on the way to it.
+use Rattle.std.specs.Prelude.{◌≡◌, ℕ, ◌<◌, ◌≤◌, Bool, true, nat_lt, IsTrue, All, List, [], ◌∷◌}
+use Rattle.std.specs.Prelude.{length, map}
+use Rattle.std.specs.Prelude.{get_or, bytes_eq}
+use Rattle.std.specs.List.{list_all, IsDistinct}
 use Rattle.graph_model.specs.GraphData.{GraphData}
 use Rattle.edge_predicates.specs.declared.pred.Place.{Place}
 use Rattle.edge_predicates.specs.declared.pred.Place.TheVariants as place
 use Rattle.edge_predicates.specs.declared.pred.Pred.{Pred}
 use Rattle.edge_predicates.specs.declared.pred.Pred.TheOpen.{Pred-F}
 use Rattle.edge_predicates.specs.declared.pred.Pred.TheFolds.{fold-Pred}
+use Rattle.segment_split.specs.declared.SplitRule.{SplitRule}
+use Rattle.segment_split.specs.declared.SplitRule.TheVariants as split
 use Rattle.vertex_lang.specs.Leaves.{IsChecked}
 use Rattle.vertex_lang.specs.Lone.{number_of}
 use Rattle.gvdl_programs.specs.Fits.{ProgramFits}
@@ -14,8 +18,11 @@ use Rattle.gvdl_check.specs.declared.names.Meaning.{Meaning}
 use Rattle.gvdl_check.specs.declared.names.Meaning.TheVariants as meaning
 use Rattle.gvdl_check.specs.declared.plan.ViewPlan.{ViewPlan}
 use Rattle.gvdl_check.specs.declared.plan.RunPlan.{RunPlan}
+use Rattle.gvdl_check.specs.declared.plan.Step.TheVariants as step
 use Rattle.gvdl_check.specs.declared.plan.Plan.{Plan}
-use Rattle.gvdl_check.specs.Names.{NameList}
+use Rattle.gvdl_check.specs.declared.known.Known.{Known}
+use Rattle.gvdl_check.specs.Known.{views_in}
+use Rattle.gvdl_check.specs.Steps.{StepsFit, StepFits, views_at}
 
 -- the column that a place names is one of the graph
 abbrev pub place_fits : GraphData → Place → Bool
@@ -43,26 +50,53 @@ fits g = fold-Pred Bool (fits_of g)
 abbrev pub RuleFits : GraphData → List Pred → Type 0
 RuleFits g rules = All (λ p. IsTrue (fits g p)) rules
 
-abbrev pub ViewsFit : GraphData → List ViewPlan → Type 0
-ViewsFit g views = (length views ≤ 64) × All (λ view. RuleFits g view.rule.rules) views
+-- the views of a collection
+pub record ViewsFit (g : GraphData) (views : List ViewPlan) : Type 0 where
+  pub few : length views ≤ 1_024
+  pub rules : All (λ view. RuleFits g view.rule.rules) views
+  pub distinct : IsDistinct bytes_eq (map (λ view. view.name) views)
 
--- a program that a name stands for fits the graph
-abbrev pub ProgramMeantFits : GraphData → Meaning → Type 0
-ProgramMeantFits g (meaning.Program program) = ProgramFits g program
-ProgramMeantFits g (meaning.Base rules) = Unit {0}
-ProgramMeantFits g (meaning.Collection place) = Unit {0}
+-- a segment has at least one view
+abbrev pub SplitFits : SplitRule → Type 0
+SplitFits (split.Every n) = 1 ≤ n
+SplitFits _ = Unit {0}
 
--- all programs that have names fit the graph
-abbrev pub ProgramsFit : GraphData → NameList → Type 0
-ProgramsFit g names = All (λ taken. ProgramMeantFits g taken.1) names
-
--- a run on one of so many collections, of a program that fits the graph, for a number of rounds that is allowed
+-- a run on one of so many collections, of a program that fits the graph, with rounds and segments
+-- that are allowed
 pub record RunFits (g : GraphData) (collections : ℕ) (run : RunPlan) : Type 0 where
   pub collection : run.collection < collections
   pub checked : IsChecked run.program g
   pub some : 1 ≤ number_of run.rounds
   pub limit : number_of run.rounds ≤ 1_000_000
+  pub split : SplitFits run.split
 
 pub record PlanFits (g : GraphData) (p : Plan) : Type 0 where
   pub collections : All (λ c. ViewsFit g c.views) p.collections
   pub runs : All (RunFits g (length p.collections)) p.runs
+  pub steps : (n : ℕ) → n < length p.steps → StepFits p n (get_or p.steps n step.Nothing)
+  -- at each step a collection has some of the views that it has at the end
+  pub views : (n place : ℕ) → views_at p n place ≤ length (views_in p.collections place)
+  pub all : (place : ℕ) → views_at p (length p.steps) place ≡ length (views_in p.collections place)
+
+-- ---- on the way to the plan
+
+-- what a name stands for, where there are so many collections and runs
+abbrev pub MeaningFits : GraphData → (collections runs : ℕ) → Meaning → Type 0
+MeaningFits g n m (meaning.Program p) = ProgramFits g p
+MeaningFits g n m (meaning.Base place) = Unit {0}
+MeaningFits g n m (meaning.Collection place base) = place < n
+MeaningFits g n m (meaning.Kept place) = place < m
+
+-- what is known fits the graph
+pub record KnownFits (g : GraphData) (k : Known) : Type 0 where
+  pub names : All (λ taken. MeaningFits g (length k.collections) (length k.runs) taken.1) k.names
+  pub singles : All (RuleFits g) k.singles
+  pub collections : All (λ c. ViewsFit g c.views) k.collections
+  pub runs : All (RunFits g (length k.collections)) k.runs
+  pub steps : StepsFit k.steps k.collections k.runs
+
+-- what is known has as many items of each kind at most
+pub record IsSmall (n : ℕ) (k : Known) : Type 0 where
+  pub singles : length k.singles ≤ n
+  pub collections : length k.collections ≤ n
+  pub runs : length k.runs ≤ n

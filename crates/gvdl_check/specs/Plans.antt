@@ -1,5 +1,8 @@
 -- The plan of a script against a graph, or its first refusal.
-use Rattle.std.specs.Prelude.{ℕ, ◌+◌, Bool, true, false, ◌&&◌, nat_le, List, [], ◌∷◌, ◌++◌, length, Option, None, is_none, Result, Ok, Err, codes}
+use Rattle.std.specs.Prelude.{ℕ, ◌+◌, Bool, true, false, not, ◌&&◌, ◌==◌, nat_le, nat_lt, is_some}
+use Rattle.std.specs.Prelude.{List, [], ◌∷◌, ◌++◌, length}
+use Rattle.std.specs.Prelude.{Option, None, Some, Result, Ok}
+use Rattle.std.specs.List.{count_by}
 use Rattle.graph_model.specs.GraphData.{GraphData}
 use Rattle.gvdl_tree.specs.declared.predicate.PredTree.{PredTree}
 use Rattle.gvdl_tree.specs.declared.expression.ExprTree.{ExprTree}
@@ -8,7 +11,9 @@ use Rattle.gvdl_tree.specs.declared.script.Call.{Call}
 use Rattle.gvdl_tree.specs.declared.script.Gather.{Gather}
 use Rattle.gvdl_tree.specs.declared.script.Item.{Item}
 use Rattle.gvdl_tree.specs.declared.script.OrderWord.{OrderWord}
+use Rattle.gvdl_tree.specs.declared.script.OrderWord.TheVariants as order_word
 use Rattle.gvdl_tree.specs.declared.script.SplitWord.{SplitWord}
+use Rattle.gvdl_tree.specs.declared.script.SplitWord.TheVariants as split_word
 use Rattle.gvdl_tree.specs.declared.script.Statement.{Statement}
 use Rattle.gvdl_tree.specs.declared.script.Statement.TheVariants as statement
 use Rattle.gvdl_tree.specs.declared.script.Script.{Script}
@@ -16,90 +21,79 @@ use Rattle.edge_predicates.specs.declared.pred.Pred.{Pred}
 use Rattle.vertex_lang.specs.declared.program.Program.{Program}
 use Rattle.vertex_lang.specs.declared.lone.Rounds.{Rounds}
 use Rattle.vertex_lang.specs.declared.lone.Rounds.TheVariants as rounds
+use Rattle.segment_split.specs.declared.SplitRule.{SplitRule}
 use Rattle.segment_split.specs.declared.SplitRule.TheVariants as split
-use Rattle.gvdl_check.specs.declared.fault.CheckFault.{CheckFault}
 use Rattle.gvdl_programs.specs.declared.refusal.Refusal.TheVariants as refusal
-use Rattle.gvdl_programs.specs.declared.template.ProgramTemplate.{ProgramTemplate}
-use Rattle.gvdl_programs.specs.declared.template.Callable.TheVariants as callable
-use Rattle.gvdl_check.specs.declared.names.Meaning.TheVariants as meaning
-use Rattle.gvdl_check.specs.declared.plan.ViewPlan.{ViewPlan}
-use Rattle.gvdl_check.specs.declared.plan.CollectionPlan.{CollectionPlan}
-use Rattle.gvdl_check.specs.declared.plan.OrderRule.TheVariants as order
-use Rattle.gvdl_check.specs.declared.plan.RunPlan.{RunPlan}
-use Rattle.gvdl_check.specs.declared.plan.Step.{Step}
-use Rattle.gvdl_check.specs.declared.plan.Step.TheVariants as step
-use Rattle.gvdl_check.specs.declared.plan.Plan.{Plan}
-use Rattle.gvdl_check.specs.declared.known.Known.{Known}
 use Rattle.gvdl_programs.specs.Judging.{Judged, ◌>>=◌, ◌>>◌, expect}
 use Rattle.gvdl_programs.specs.Programs.{declared}
 use Rattle.gvdl_programs.specs.Calls.{called}
+use Rattle.gvdl_check.specs.declared.fault.CheckFault.{CheckFault}
+use Rattle.gvdl_check.specs.declared.names.Meaning.TheVariants as meaning
+use Rattle.gvdl_check.specs.declared.plan.CollectionPlan.{CollectionPlan}
+use Rattle.gvdl_check.specs.declared.plan.OrderRule.{OrderRule}
+use Rattle.gvdl_check.specs.declared.plan.OrderRule.TheVariants as order
+use Rattle.gvdl_check.specs.declared.plan.RunPlan.{RunPlan}
+use Rattle.gvdl_check.specs.declared.plan.Step.TheVariants as step
+use Rattle.gvdl_check.specs.declared.plan.Plan.{Plan}
+use Rattle.gvdl_check.specs.declared.known.Known.{Known}
+use Rattle.gvdl_check.specs.declared.call.Limits.{Limits}
+use Rattle.gvdl_check.specs.Built.{is_built}
 use Rattle.gvdl_check.specs.Faults.{at}
-use Rattle.gvdl_check.specs.Names.{NameList, new_name, base_of, collection_of, program_of}
+use Rattle.gvdl_check.specs.Known.{first_names, loaded, with_step, with_single, with_collection}
+use Rattle.gvdl_check.specs.Known.{views_in}
+use Rattle.gvdl_check.specs.Known.{with_views, with_append, with_program, with_run}
+use Rattle.gvdl_check.specs.Names.{NameList, new_name, base_of, collection_of, kept_of, program_of}
 use Rattle.gvdl_check.specs.Predicates.{predicate}
-use Rattle.gvdl_check.specs.Views.{views_of}
-
--- ---- what is known after a statement
-
-abbrev pub known_of : NameList → List CollectionPlan → List RunPlan → List Step → Known
-known_of names collections runs steps = record { names = names; collections = collections; runs = runs; steps = steps }
-
--- after a single view, with the predicates of all views down to the graph
-abbrev pub with_single : Known → List ℕ → List Pred → Known
-with_single k name rules = known_of (k.names ++ (name, meaning.Base rules) ∷ []) k.collections k.runs (k.steps ++ step.Nothing ∷ [])
-
-abbrev pub collection_plan : List ℕ → List ViewPlan → CollectionPlan
-collection_plan name views = record { name = name; views = views }
-
-abbrev pub with_collection : Known → List ℕ → List ViewPlan → Known
-with_collection k name views =
-    known_of (k.names ++ (name, meaning.Collection (length k.collections)) ∷ []) (k.collections ++ collection_plan name views ∷ []) k.runs (k.steps ++ step.Make (length k.collections) (length views) ∷ [])
-
-abbrev pub with_program : Known → List ℕ → ProgramTemplate → Known
-with_program k name t = known_of (k.names ++ (name, meaning.Program (callable.Written t)) ∷ []) k.collections k.runs (k.steps ++ step.Nothing ∷ [])
-
-abbrev pub with_run : Known → RunPlan → Known
-with_run k run = known_of k.names k.collections (k.runs ++ run ∷ []) (k.steps ++ step.Run (length k.runs) ∷ [])
+use Rattle.gvdl_check.specs.Singles.{rules_at}
+use Rattle.gvdl_check.specs.Views.{items_added}
 
 -- ---- the load
-
--- the names that stand from the start
-abbrev pub first_names : NameList
-first_names = (codes "hops", meaning.Program callable.Hops) ∷ (codes "dist", meaning.Program callable.Dist) ∷ (codes "wcc", meaning.Program callable.Wcc) ∷ (codes "pagerank", meaning.Program callable.Pagerank) ∷ []
 
 abbrev pub load : List ℕ → Judged Known
 load graph = do
   new_name first_names graph
-  Ok (known_of (first_names ++ (graph, meaning.Base []) ∷ []) [] [] [])
+  Ok (loaded graph)
 
 -- ---- views
 
-abbrev pub single : GraphData → Known → List ℕ → List ℕ → PredTree → Judged Known
+abbrev pub single : GraphData → Known → (name base : List ℕ) → PredTree → Judged Known
 single g k name base tree = do
   new_name k.names name
-  rules ← base_of k.names base
+  place ← base_of k.names base
   p ← predicate g tree
-  Ok (with_single k name (rules ++ p ∷ []))
+  Ok (with_single k name place p)
 
-abbrev pub collection : GraphData → Known → List ℕ → List ℕ → List Item → Judged Known
+abbrev pub collection : GraphData → Known → (name base : List ℕ) → List Item → Judged Known
 collection g k name base items = do
   new_name k.names name
-  rules ← base_of k.names base
-  views ← views_of g rules items
-  Ok (with_collection k name views)
+  place ← base_of k.names base
+  views ← items_added g (rules_at k.singles place) [] items
+  Ok (with_collection k name place views)
+
+-- the collections, where the one with this place has the views of the items behind its own
+abbrev pub views_appended : GraphData → List Pred → List CollectionPlan → ℕ → List Item
+    → Judged (List CollectionPlan)
+views_appended g base collections place items = do
+  views ← items_added g base (views_in collections place) items
+  Ok (with_views collections place views)
+
+-- The items stand on what the collection stands on.
+abbrev pub append : GraphData → Known → List ℕ → List Item → Judged Known
+append g k target items = do
+  found ← collection_of k.names target
+  collections ← views_appended g (rules_at k.singles found.1) k.collections found.0 items
+  Ok (with_append k found.0 collections)
 
 -- ---- programs
 
-abbrev pub program : GraphData → Known → List ℕ → (params : List (List ℕ)) → Along → (start send : ExprTree) → Gather → ExprTree → Judged Known
+abbrev pub program : GraphData → Known → List ℕ → (params : List (List ℕ)) → Along
+    → (start send : ExprTree) → Gather → ExprTree → Judged Known
 program g k name params along start send gather update = do
   new_name k.names name
   t ← declared g params along start send gather update
   Ok (with_program k name t)
 
 -- ---- runs
-
--- so far a run is without order, split and keep
-abbrev pub is_plain : Option OrderWord → Option SplitWord → Option (List ℕ) → Bool
-is_plain o d keep = is_none o && (is_none d && is_none keep)
 
 abbrev pub are_rounds : ℕ → Bool
 are_rounds n = nat_le 1 n && nat_le n 1_000_000
@@ -114,31 +108,111 @@ rounds_of within n = do
   expect (are_rounds n) refusal.BadRounds
   Ok (rounds_with within n)
 
--- a run without order is greedy, and one without split is whole
-abbrev pub run_plan : ℕ → Call → Program → Rounds → RunPlan
-run_plan place call meant limit = record { collection = place; call = call; program = meant; rounds = limit; order = order.Greedy; split = split.Whole; keep = None }
+-- a run without an order is greedy
+abbrev pub order_of : Option OrderWord → OrderRule
+order_of None = order.Greedy
+order_of (Some order_word.Greedy) = order.Greedy
+order_of (Some order_word.Declared) = order.Declared
 
-abbrev pub plain_run : GraphData → Known → Call → List ℕ → Bool → ℕ → Judged Known
-plain_run g k call target within number = do
-  found ← program_of k.names call.name
-  place ← collection_of k.names target
+-- into segments of a number of views, which is not 0
+abbrev pub every : ℕ → Judged SplitRule
+every n = do
+  expect (not (n == 0)) refusal.BadSplit
+  Ok (split.Every n)
+
+-- a run without a split is whole
+abbrev pub split_of : Option SplitWord → Judged SplitRule
+split_of None = Ok split.Whole
+split_of (Some split_word.Whole) = Ok split.Whole
+split_of (Some (split_word.Every n)) = every n
+split_of (Some split_word.Auto) = Ok split.Auto
+
+-- how many of the runs are kept
+abbrev pub kept_among : List RunPlan → ℕ
+kept_among runs = count_by (λ run. is_some run.keep) runs
+
+-- the names after a run that comes behind these and is kept under this name
+abbrev pub keep_added : NameList → List RunPlan → Option (List ℕ) → Judged NameList
+keep_added names runs None = Ok names
+keep_added names runs (Some name) = do
+  new_name names name
+  expect (nat_lt (kept_among runs) 64) refusal.TooManyKept
+  Ok (names ++ (name, meaning.Kept (length runs)) ∷ [])
+
+abbrev pub run_plan : ℕ → Call → Program → Rounds → OrderRule → SplitRule → Option (List ℕ)
+    → RunPlan
+run_plan place call meant limit way segments keep = record {
+  collection = place;
+  call = call;
+  program = meant;
+  rounds = limit;
+  order = way;
+  split = segments;
+  keep = keep;
+}
+
+-- the place of the collection that a run is on, and the program that its call means
+abbrev pub program_meant : GraphData → NameList → Call → List ℕ → Judged (ℕ × Program)
+program_meant g names call target = do
+  found ← program_of names call.name
+  place ← collection_of names target
   meant ← called g found call.args
-  limit ← rounds_of within number
-  Ok (with_run k (run_plan place call meant limit))
+  Ok (place.0, meant)
 
-abbrev pub run : GraphData → Known → Call → List ℕ → Bool → ℕ → Option OrderWord → Option SplitWord → Option (List ℕ) → Judged Known
-run g k call target within number o d keep = do
-  expect (is_plain o d keep) refusal.NotBuilt
-  plain_run g k call target within number
+-- how long a run goes on, and then where it starts anew
+abbrev pub limits_meant : Limits → Judged (Rounds × SplitRule)
+limits_meant limits = do
+  limit ← rounds_of limits.within limits.number
+  segments ← split_of limits.split
+  Ok (limit, segments)
+
+-- the plan of a run that may be kept under a name, before the name is asked about
+abbrev pub run_planned : GraphData → NameList → Call → List ℕ → Limits → Option (List ℕ) → Judged RunPlan
+run_planned g names call target limits keep = do
+  meant ← program_meant g names call target
+  way ← limits_meant limits
+  Ok (run_plan meant.0 call meant.1 way.0 (order_of limits.order) way.1 keep)
+
+abbrev pub run : GraphData → Known → Call → List ℕ → Limits → Option (List ℕ) → Judged Known
+run g k call target limits keep = do
+  planned ← run_planned g k.names call target limits keep
+  names ← keep_added k.names k.runs keep
+  Ok (with_run k names planned)
+
+abbrev pub limits_of : Bool → ℕ → Option OrderWord → Option SplitWord → Limits
+limits_of within number o d = record { within = within; number = number; order = o; split = d }
+
+-- ---- what is shown
+
+abbrev pub show_order : Known → List ℕ → Judged Known
+show_order k name = do
+  found ← collection_of k.names name
+  Ok (with_step k (step.ShowOrder found.0))
+
+abbrev pub show_work : Known → List ℕ → Judged Known
+show_work k name = do
+  place ← kept_of k.names name
+  Ok (with_step k (step.ShowWork place))
 
 -- ---- scripts
 
+-- what is known after a statement
+abbrev pub statement_added : GraphData → Known → Statement → Judged Known
+statement_added g k (statement.View name base tree) = single g k name base tree
+statement_added g k (statement.Collection name base items) = collection g k name base items
+statement_added g k (statement.Program name params along start send gather update) =
+    program g k name params along start send gather update
+statement_added g k (statement.Run call target within number o d keep) =
+    run g k call target (limits_of within number o d) keep
+statement_added g k (statement.Append target items) = append g k target items
+statement_added g k (statement.ShowOrder name) = show_order k name
+statement_added g k (statement.ShowWork name) = show_work k name
+
+-- the same, where what is not built is told before all else
 abbrev pub statement_judged : GraphData → Known → Statement → Judged Known
-statement_judged g k (statement.View name base tree) = single g k name base tree
-statement_judged g k (statement.Collection name base items) = collection g k name base items
-statement_judged g k (statement.Program name params along start send gather update) = program g k name params along start send gather update
-statement_judged g k (statement.Run call target within number o d keep) = run g k call target within number o d keep
-statement_judged g k _ = Err refusal.NotBuilt
+statement_judged g k s = do
+  expect (is_built s) refusal.NotBuilt
+  statement_added g k s
 
 abbrev pub plan_of : Known → Plan
 plan_of k = record { collections = k.collections; runs = k.runs; steps = k.steps }

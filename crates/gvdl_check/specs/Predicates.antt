@@ -1,4 +1,5 @@
--- Predicates against the columns of a graph: each property is a column, and what is compared is of one kind.
+-- Predicates against the columns of a graph: each property is a column, and what is compared is of
+-- one kind.
 use Rattle.std.specs.Prelude.{ℕ, Bool, true, false, List, Ok}
 use Rattle.graph_model.specs.GraphData.{GraphData}
 use Rattle.graph_model.specs.declared.cell.Kind.{Kind}

@@ -2,24 +2,24 @@
 
 ghost use Rattle.std.specs.Prelude.{◌≡◌};
 ghost use Rattle.gvdl_programs.specs.Judging.{Tells};
-ghost use Rattle.gvdl_check.specs.Plans.{is_plain, are_rounds, rounds_of};
+ghost use Rattle.gvdl_check.specs.Plans.{are_rounds, rounds_of, order_of, every, split_of, limits_meant};
 
+use crate::plan::OrderRule;
 use gvdl_programs::{Refusal, Stop};
 use gvdl_tree::{OrderWord, SplitWord};
-use surge_outside::Text;
+use segment_split::SplitRule;
 use vertex_lang::Rounds;
 
 const ROUND_LIMIT: u64 = 1_000_000;
 
-/// Whether a run is of the form that is built: without order, split and keep.
-pub(crate) fn is_plain(
-    order: &Option<OrderWord>,
-    split: &Option<SplitWord>,
-    keep: &Option<Text>,
-) -> bool
-    ensures { result ≡ is_plain order.now split.now keep.now }
-{
-    order.is_none() && split.is_none() && keep.is_none()
+/// How long a run goes on, in which order it takes the views, and where it starts anew, as they are written.
+#[derive(Clone, Copy)]
+pub(crate) struct Limits {
+    /// Whether it goes on `within` the number of rounds, and not for exactly so many.
+    pub(crate) within: bool,
+    pub(crate) number: u64,
+    pub(crate) order: Option<OrderWord>,
+    pub(crate) split: Option<SplitWord>,
 }
 
 fn are_rounds(number: u64) -> bool
@@ -28,8 +28,8 @@ fn are_rounds(number: u64) -> bool
     1 <= number && number <= ROUND_LIMIT
 }
 
-/// How long a run goes on: `within` the number of rounds, or for exactly so many.
-pub(crate) fn rounds_of(within: bool, number: u64) -> Result<Rounds, Stop>
+// How long a run goes on: `within` the number of rounds, or for exactly so many.
+fn rounds_of(within: bool, number: u64) -> Result<Rounds, Stop>
     ensures { Tells (rounds_of within number) result }
 {
     if !are_rounds(number) {
@@ -40,5 +40,49 @@ pub(crate) fn rounds_of(within: bool, number: u64) -> Result<Rounds, Stop>
         Ok(Rounds::Within(number))
     } else {
         Ok(Rounds::For(number))
+    }
+}
+
+/// In which order a run takes the views: greedily, unless another order is written.
+pub(crate) fn order_of(order: Option<OrderWord>) -> OrderRule
+    ensures { result ≡ order_of order }
+{
+    match order {
+        None => OrderRule::Greedy,
+        Some(OrderWord::Greedy) => OrderRule::Greedy,
+        Some(OrderWord::Declared) => OrderRule::Declared,
+    }
+}
+
+// Into segments of so many views.
+fn every(number: u64) -> Result<SplitRule, Stop>
+    ensures { Tells (every number) result }
+{
+    if number == 0 {
+        return Err(Stop::Refused(Refusal::BadSplit));
+    }
+    Ok(SplitRule::Every(number))
+}
+
+// Where a run starts anew: nowhere, unless a split is written.
+fn split_of(split: Option<SplitWord>) -> Result<SplitRule, Stop>
+    ensures { Tells (split_of split) result }
+{
+    match split {
+        None => Ok(SplitRule::Whole),
+        Some(SplitWord::Whole) => Ok(SplitRule::Whole),
+        Some(SplitWord::Every(number)) => every(number),
+        Some(SplitWord::Auto) => Ok(SplitRule::Auto),
+    }
+}
+
+impl Limits {
+    /// How long the run goes on, and then where it starts anew.
+    pub(crate) fn judged(self) -> Result<(Rounds, SplitRule), Stop>
+        ensures { Tells (limits_meant self) result }
+    {
+        let rounds = rounds_of(self.within, self.number)?;
+        let split = split_of(self.split)?;
+        Ok((rounds, split))
     }
 }

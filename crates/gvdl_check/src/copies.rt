@@ -29,8 +29,9 @@ fn copied_place(alloc: Global, place: &Place) -> Result<Place, NoMemory>
     }
 }
 
+/// A copy of a predicate.
 #[cycle(copying)]
-fn copied_pred(alloc: Global, pred: &Pred) -> Result<Pred, NoMemory>
+pub(crate) fn copied_pred(alloc: Global, pred: &Pred) -> Result<Pred, NoMemory>
     ensures { IfOk result (λ copy. copy ≡ pred.now) }
 {
     match pred {
@@ -81,12 +82,35 @@ fn copied_args(alloc: Global, args: &[Arg]) -> Result<List<Arg>, NoMemory>
     Ok(copies)
 }
 
-/// A copy of a call.
-pub(crate) fn copied_call(alloc: Global, call: &Call) -> Result<Call, NoMemory>
+// A copy of a call.
+fn copied_call(alloc: Global, call: &Call) -> Result<Call, NoMemory>
     ensures { IfOk result (λ copy. copy ≡ call.now) }
 {
     Ok(Call {
         name: copied_text(alloc, &call.name)?,
         args: copied_args(alloc, call.args.as_slice())?,
     })
+}
+
+// A copy of a name that need not be there.
+fn copied_name(alloc: Global, name: &Option<Text>) -> Result<Option<Text>, NoMemory>
+    ensures { IfOk result (λ copy. copy ≡ name.now) }
+{
+    match name {
+        Some(name) => Ok(Some(copied_text(alloc, name)?)),
+        None => Ok(None),
+    }
+}
+
+/// Copies of the call of a run, and of the name that it may be kept under.
+pub(crate) fn copied_words(
+    alloc: Global,
+    call: &Call,
+    name: &Option<Text>,
+) -> Result<(Call, Option<Text>), NoMemory>
+    ensures { IfOk result (λ copies. copies ≡ (call.now, name.now)) }
+{
+    let call = copied_call(alloc, call)?;
+    let name = copied_name(alloc, name)?;
+    Ok((call, name))
 }

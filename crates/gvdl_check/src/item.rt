@@ -2,7 +2,7 @@
 
 ghost use Rattle.std.specs.Prelude.{◌≡◌, ◌<◌, ◌++◌, [], ◌∷◌, length, OnOk};
 ghost use Rattle.gvdl_programs.specs.Judging.{Tells, Leaves};
-ghost use Rattle.gvdl_check.specs.Views.{view_on, has_view, new_view, room, rule_added, item_added, views_of};
+ghost use Rattle.gvdl_check.specs.Views.{view_on, has_view, new_view, room, rule_added, item_added, items_added};
 
 use crate::copies::{copied_preds, copied_text};
 use crate::plan::ViewPlan;
@@ -16,7 +16,7 @@ use std::alloc::Global;
 use surge_outside::{List, NoMemory, Text};
 
 /// A collection has at most so many views.
-const VIEW_LIMIT: usize = 64;
+const VIEW_LIMIT: usize = 1_024;
 
 // Whether a view has the name.
 fn has_view(views: &[ViewPlan], name: &str) -> bool
@@ -38,7 +38,7 @@ pub(crate) fn expect_new_view(views: &[ViewPlan], name: &str) -> Result<(), Stop
 /// Refuses one more view where the collection is full.
 pub(crate) fn expect_room(views: &[ViewPlan]) -> Result<(), Stop>
     ensures told { Tells (room views.now) result }
-    ensures few { OnOk result (length views.now < 64) }
+    ensures few { OnOk result (length views.now < 1_024) }
 {
     if views.len() >= VIEW_LIMIT {
         return Err(Stop::Refused(Refusal::TooManyViews));
@@ -117,18 +117,18 @@ fn add_item(
     }
 }
 
-/// The views of a collection on a base with these predicates, item by item.
-pub(crate) fn views_of(
+/// Adds the views of the items, one item after the other, on a base with these predicates.
+pub(crate) fn add_items(
     alloc: Global,
     graph: &Graph,
     base: &[Pred],
+    views: &mut List<ViewPlan>,
     items: &[Item],
-) -> Result<List<ViewPlan>, Stop>
-    ensures told { Tells (views_of graph.now base.now items.now) result }
+) -> Result<(), Stop>
+    ensures told { Leaves (items_added graph.now base.now views.old items.now) result views.new }
 {
-    let mut views = List::new(alloc);
     for item in items {
-        add_item(alloc, graph, base, &mut views, item)?;
+        add_item(alloc, graph, base, views, item)?;
     }
-    Ok(views)
+    Ok(())
 }

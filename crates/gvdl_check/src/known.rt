@@ -5,12 +5,14 @@ ghost use Rattle.gvdl_check.specs.Plans.{plan_of};
 
 use crate::names::Names;
 use crate::plan::{CollectionPlan, Plan, RunPlan, Step};
+use crate::singles::Singles;
 use surge_outside::List;
 
-/// What is known after some statements: the names that are taken, and the plan so far.
+/// What is known after some statements: the names that are taken, the single views, and the plan so far.
 #[derive(Drop)]
 pub(crate) struct Known {
     pub(crate) names: Names,
+    pub(crate) singles: Singles,
     pub(crate) collections: List<CollectionPlan>,
     pub(crate) runs: List<RunPlan>,
     pub(crate) steps: List<Step>,
@@ -23,6 +25,7 @@ impl Known {
     {
         let Known {
             names: _,
+            singles: _,
             collections,
             runs,
             steps,

@@ -11,19 +11,24 @@
 //! what its plan holds.
 #![tactic(auto)]
 
+mod built;
 mod call;
 mod copies;
 mod fault;
 mod item;
+mod keep;
 mod known;
+mod laws;
 mod names;
 mod plan;
 mod predicate;
 mod script;
+mod singles;
 mod statement;
 mod window;
 
 pub use fault::CheckFault;
+pub use laws::{plans_continue, plans_fit};
 pub use plan::{CollectionPlan, OrderRule, Plan, RunPlan, Step, ViewPlan};
 pub use script::check;
 

@@ -2,25 +2,25 @@
 
 ghost use Rattle.std.specs.Prelude.{◌≡◌, ◌++◌, ◌∷◌, [], None, option_copied, OnOk, IfOk};
 ghost use Rattle.gvdl_programs.specs.Judging.{Tells};
-ghost use Rattle.gvdl_check.specs.Names.{meaning_of, new_name, base_of, collection_of, program_named};
+ghost use Rattle.gvdl_check.specs.Names.{meaning_of, new_name, base_of, collection_of, kept_of, program_named};
 
-use crate::copies::copied_preds;
-use edge_predicates::Pred;
 use gvdl_programs::{Callable, Refusal, Stop};
 use indexmap::IndexMap;
 use std::alloc::Global;
 use std::marker::Model;
-use surge_outside::{List, NoMemory};
+use surge_outside::NoMemory;
 
 /// What a name stands for.
 #[derive(Drop)]
 pub(crate) enum Meaning {
     /// A built-in program, or one that the script wrote.
     Program(Callable),
-    /// The graph or a single view, with the predicates of all views down to the graph.
-    Base(List<Pred>),
-    /// The collection with this place.
-    Collection(u32),
+    /// The single view with this place; the graph, where there is none.
+    Base(Option<u32>),
+    /// The collection with this place, whose views stand on the graph or on the single view of `base`.
+    Collection { place: u32, base: Option<u32> },
+    /// The run with this place, which is kept.
+    Kept(u32),
 }
 
 /// The names that are taken, in the order in which they were.
@@ -36,10 +36,9 @@ impl Model for Names {
     ghost Value = { List (List ℕ × Meaning) };
 
     ghost use Rattle.std.specs.Coded.{codes};
-    ghost use Rattle.edge_predicates.specs.contracts.pred.Pred as pred_contract;
     ghost use Rattle.gvdl_programs.specs.contracts.template.Callable as callable_contract;
 
-    ghost coded = { Prim.hlevel (codes, pred_contract.the_row.coded, callable_contract.the_row.coded) };
+    ghost coded = { Prim.hlevel (codes, callable_contract.the_row.coded) };
 
     ghost use Rattle.std.specs.Prelude.{map, string_bytes};
 
@@ -91,22 +90,32 @@ impl Names {
         }
     }
 
-    /// The predicates of the graph or the single view that has this name.
-    pub(crate) fn base(&self, alloc: Global, name: &str) -> Result<List<Pred>, Stop>
+    /// The place of the single view that has this name; none where the graph has it.
+    pub(crate) fn base(&self, name: &str) -> Result<Option<u32>, Stop>
         ensures { Tells (base_of self.now name.now) result }
     {
         match self.meaning(name) {
-            Some(Meaning::Base(rules)) => Ok(copied_preds(alloc, rules.as_slice())?),
+            Some(Meaning::Base(place)) => Ok(*place),
             _ => Err(Stop::Refused(Refusal::UnknownName)),
         }
     }
 
-    /// The place of the collection that has this name.
-    pub(crate) fn collection(&self, name: &str) -> Result<u32, Stop>
+    /// The place of the collection that has this name, and of the single view that it stands on.
+    pub(crate) fn collection(&self, name: &str) -> Result<(u32, Option<u32>), Stop>
         ensures { Tells (collection_of self.now name.now) result }
     {
         match self.meaning(name) {
-            Some(Meaning::Collection(place)) => Ok(*place),
+            Some(Meaning::Collection { place, base }) => Ok((*place, *base)),
+            _ => Err(Stop::Refused(Refusal::UnknownName)),
+        }
+    }
+
+    /// The place of the kept run that has this name.
+    pub(crate) fn kept(&self, name: &str) -> Result<u32, Stop>
+        ensures { Tells (kept_of self.now name.now) result }
+    {
+        match self.meaning(name) {
+            Some(Meaning::Kept(run)) => Ok(*run),
             _ => Err(Stop::Refused(Refusal::UnknownName)),
         }
     }

@@ -18,8 +18,9 @@ pub struct ViewPlan {
 /// A collection of views.
 #[derive(Debug, Drop)]
 pub struct CollectionPlan {
+    /// The name, which nothing else in the script has.
     pub name: Text,
-    /// All views in declared order, at most 64.
+    /// All views in declared order, appended ones behind the others, at most 1,024.
     pub views: List<ViewPlan>,
 }
 
@@ -43,9 +44,11 @@ pub struct RunPlan {
     pub program: Program,
     /// How long it runs on a view: within a number of rounds or for it, from 1 to 1,000,000.
     pub rounds: Rounds,
+    /// In which order it takes the views: greedily, where the script says nothing.
     pub order: OrderRule,
+    /// Where it starts anew: nowhere, where the script says nothing.
     pub split: SplitRule,
-    /// The name under which the run is kept.
+    /// The name under which the run is kept, where it is: nothing else in the script has it, and at most 64 runs are kept.
     pub keep: Option<Text>,
 }
 
@@ -82,7 +85,9 @@ pub enum Step {
 /// What a script asks for.
 #[derive(Drop)]
 pub struct Plan {
+    /// The collections, in the order of the script, each with the views that it has at the end.
     pub collections: List<CollectionPlan>,
+    /// The runs, in the order of the script.
     pub runs: List<RunPlan>,
     /// One for each statement after the load.
     pub steps: List<Step>,

@@ -1,9 +1,6 @@
 //! The check of a whole script.
 
-ghost use Rattle.std.specs.Prelude.{◌≡◌, ◌⊎◌, ℕ, IfOk, Ok, Err};
-ghost use Rattle.gvdl_parser.specs.declared.fault.ScriptFault.{ScriptFault};
-ghost use Rattle.gvdl_check.specs.declared.plan.Plan.{Plan};
-ghost use Rattle.gvdl_check.specs.declared.fault.CheckFault.TheVariants as fault;
+ghost use Rattle.std.specs.Prelude.{◌≡◌, length, IfOk};
 ghost use Rattle.gvdl_check.specs.Faults.{Agrees};
 ghost use Rattle.gvdl_check.specs.Plans.{plan};
 ghost use Rattle.gvdl_check.specs.Fits.{PlanFits};
@@ -24,19 +21,14 @@ use std::alloc::Global;
 ///
 /// # Errors
 ///
-/// [`CheckFault::Fault`] with the first fault of the script against the graph, exactly where it has one and no statement
-/// before that is not built; [`CheckFault::NotBuilt`] with the first statement that is not built, exactly where no
+/// [`CheckFault::Fault`] with the first fault of the script against the graph, exactly where it has one and neither its
+/// statement nor one before that is not built; [`CheckFault::NotBuilt`] with the first statement that is not built, exactly where no
 /// statement before it has a fault; [`CheckFault::NoMemory`] where a request for memory was refused.
 pub fn check(alloc: Global, script: &Script, graph: &Graph) -> Result<Plan, CheckFault>
     requires written { IsWritten script.now }
     ensures exact { Agrees (plan script.now graph.now) result }
-    ensures planned { IfOk result (λ p. plan script.now graph.now ≡ Ok p) }
-    ensures fault { (f : ScriptFault) → result ≡ Err (CheckFault.Fault f) → plan script.now graph.now ≡ Err (fault.Fault f) }
-    ensures not_built { (n : ℕ) → result ≡ Err (CheckFault.NotBuilt n) → plan script.now graph.now ≡ Err (fault.NotBuilt n) }
-    ensures every_plan { (p : Plan) → plan script.now graph.now ≡ Ok p → (result ≡ Ok p) ⊎ (result ≡ Err CheckFault.NoMemory) }
-    ensures every_fault { (f : ScriptFault) → plan script.now graph.now ≡ Err (fault.Fault f) → (result ≡ Err (CheckFault.Fault f)) ⊎ (result ≡ Err CheckFault.NoMemory) }
-    ensures every_not_built { (n : ℕ) → plan script.now graph.now ≡ Err (fault.NotBuilt n) → (result ≡ Err (CheckFault.NotBuilt n)) ⊎ (result ≡ Err CheckFault.NoMemory) }
     ensures fits { IfOk result (λ p. PlanFits graph.now p) }
+    ensures steps { IfOk result (λ p. length p.steps ≡ length script.now.statements) }
 {
     judged(alloc, script, graph)
 }

@@ -1,9 +1,8 @@
 //! Windows that slide along an edge property.
 
 ghost use Rattle.std.specs.Prelude.{◌≡◌, ◌<◌, ◌-◌, ◌^◌, ◌≤ℤ◌, ◌+ℤ◌, ◌*◌, pos, int_le, IsTrue, IfOk};
-ghost use Rattle.std.specs.List.{range_with_len};
-ghost use Rattle.gvdl_programs.specs.Judging.{Tells, Leaves, in_turn};
-ghost use Rattle.gvdl_check.specs.Views.{greatest, is_window, window_count, window_name, bounded, window_added, windows_added};
+ghost use Rattle.gvdl_programs.specs.Judging.{Tells, Leaves};
+ghost use Rattle.gvdl_check.specs.Views.{greatest, is_window, window_count, window_name, bounded, window_added, slid, windows_added};
 
 use crate::item::{add_view, expect_new_view, expect_room};
 use crate::plan::ViewPlan;
@@ -116,7 +115,7 @@ fn slide(
     window: Window,
 ) -> Result<(), Stop>
     requires { IsTrue (is_window window.first window.last window.width window.step) }
-    ensures told { Leaves (in_turn (window_added base.now name.now column window.first window.width window.step) views.old (range_with_len 0 (window_count window.first window.last window.step))) result views.new }
+    ensures told { Leaves (slid base.now name.now column window.first window.last window.width window.step views.old) result views.new }
 {
     for place in 0..window_count(window) {
         add_window(alloc, base, views, name, column, window, place)?;

@@ -1,7 +1,6 @@
 //! What the check says of a script, as a text.
 
-use crate::tests::program_text::program_text;
-use crate::{CheckFault, CollectionPlan, Plan, RunPlan, Step, ViewPlan, check};
+use crate::{CheckFault, CollectionPlan, OrderRule, Plan, RunPlan, Step, ViewPlan, check};
 use edge_predicates::{Cmp, Place, Pred};
 use graph_loader::load;
 use gvdl_parser::{ScriptFault, parse};
@@ -83,15 +82,33 @@ fn view_text(alloc: Global, view: &ViewPlan) -> Result<String, AllocError> {
     format!(in alloc; " {}:{}", view.name.as_str(), rules.as_str())
 }
 
+// What is said of a run beside its program, its collection and its rounds: nothing, where it is greedy and not kept.
+fn way_text(alloc: Global, run: &RunPlan) -> Result<String, AllocError> {
+    let mut text = match run.order {
+        OrderRule::Greedy => String::new(alloc),
+        OrderRule::Declared => format!(in alloc; " declared")?,
+    };
+    if let Some(name) = &run.keep {
+        text.push_str(" as ")?;
+        text.push_str(name.as_str())?;
+    }
+    Ok(text)
+}
+
 fn run_text(alloc: Global, run: &RunPlan) -> Result<String, AllocError> {
     let name = run.call.name.as_str();
     let args = run.call.args.len();
+    let way = way_text(alloc, run)?;
+    let way = way.as_str();
     match run.rounds {
         Rounds::Within(number) => {
-            format!(in alloc; "{name}/{args} on {} within {number}; ", run.collection)
+            format!(in alloc;
+                "{name}/{args} on {} within {number}{way}; ",
+                run.collection
+            )
         }
         Rounds::For(number) => {
-            format!(in alloc; "{name}/{args} on {} for {number}; ", run.collection)
+            format!(in alloc; "{name}/{args} on {} for {number}{way}; ", run.collection)
         }
     }
 }
@@ -150,6 +167,7 @@ fn steps_text(alloc: Global, plan: &Plan) -> Result<String, AllocError> {
     Ok(text)
 }
 
+// A plan as a text.
 fn plan_text(alloc: Global, plan: &Plan) -> Result<String, AllocError> {
     let mut text = collections_text(alloc, plan)?;
     let runs = runs_text(alloc, plan)?;
@@ -159,6 +177,7 @@ fn plan_text(alloc: Global, plan: &Plan) -> Result<String, AllocError> {
     Ok(text)
 }
 
+// A fault as a text.
 fn fault_text(alloc: Global, fault: CheckFault) -> Result<String, AllocError> {
     match fault {
         CheckFault::Fault(ScriptFault::UnknownName(n)) => format!(in alloc; "UnknownName {n}"),
@@ -172,6 +191,8 @@ fn fault_text(alloc: Global, fault: CheckFault) -> Result<String, AllocError> {
         }
         CheckFault::Fault(ScriptFault::TooManyViews(n)) => format!(in alloc; "TooManyViews {n}"),
         CheckFault::Fault(ScriptFault::BadRounds(n)) => format!(in alloc; "BadRounds {n}"),
+        CheckFault::Fault(ScriptFault::TooManyKept(n)) => format!(in alloc; "TooManyKept {n}"),
+        CheckFault::Fault(ScriptFault::BadSplit(n)) => format!(in alloc; "BadSplit {n}"),
         CheckFault::Fault(_) => format!(in alloc; "another fault"),
         CheckFault::NotBuilt(n) => format!(in alloc; "NotBuilt {n}"),
         CheckFault::NoMemory => format!(in alloc; "no memory"),
@@ -186,24 +207,6 @@ fn answer(alloc: Global, script: &str) -> Result<Result<Plan, CheckFault>, Fail>
     }
     let script = parse(alloc, script.as_bytes())?;
     Ok(check(alloc, &script, &graph))
-}
-
-fn called_text(alloc: Global, plan: &Plan) -> Result<String, AllocError> {
-    let mut text = String::new(alloc);
-    for run in plan.runs.as_slice() {
-        let one = program_text(alloc, &run.program)?;
-        text.push_str(one.as_str())?;
-        text.push_str("; ")?;
-    }
-    Ok(text)
-}
-
-/// The programs that the runs of a script call, as a text, or the script's first fault.
-pub(crate) fn called(alloc: Global, script: &str) -> Result<String, Fail> {
-    match answer(alloc, script)? {
-        Ok(plan) => Ok(called_text(alloc, &plan)?),
-        Err(fault) => Ok(fault_text(alloc, fault)?),
-    }
 }
 
 /// The plan of a script as a text, or its first fault.

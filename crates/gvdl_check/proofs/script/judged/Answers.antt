@@ -2,9 +2,8 @@
 use Rattle.std.proofs.Common.{◌≡◌, ◌∙◌, ℕ, ◌+◌, ◌<◌, List, length, get_or, drop, ap, arith, Ok}
 use Rattle.gvdl_tree.specs.declared.script.Statement.{Statement}
 use Rattle.gvdl_check.specs.Plans.{statement_judged, plan_from}
+use Rattle.gvdl_check.specs.PlanLaws.{judged_grows}
 use Rattle.gvdl_check.proofs.SizeFacts.{few_statements}
-use Rattle.gvdl_check.proofs.Growth.{statement_grows}
-use Rattle.gvdl_check.proofs.PlanFacts.{statement_fits}
 use Rattle.gvdl_check.proofs.PlanSteps.{next_from}
 use Rattle.gvdl_check.proofs.script.judged.Goals as goal
 
@@ -13,6 +12,21 @@ overflow_add-number c =
     let few = few_statements c.args.script.now c.requires in
     let size = ap (λ (l : List Statement). length l) c.as_slice-statement-items.ensures in
     omega (arith, few, size, c.loop-statement.invariant.number, c.loop-statement-test.true)
+
+pub add_statement-requires : goal.add_statement-requires
+add_statement-requires c =
+    let few = few_statements c.args.script.now c.requires in
+    let size = ap (λ (l : List Statement). length l) c.as_slice-statement-items.ensures in
+    let inv = c.loop-statement.invariant in
+    let lt = c.loop-statement-test.true in
+    record {
+      fits = inv.fits;
+      small = record {
+        singles = omega (arith, few, size, lt, inv.small.singles);
+        collections = omega (arith, few, size, lt, inv.small.collections);
+        runs = omega (arith, few, size, lt, inv.small.runs);
+      };
+    }
 
 pub loop-statement-preserved : goal.loop-statement-preserved
 loop-statement-preserved c =
@@ -27,12 +41,15 @@ loop-statement-preserved c =
     let lt : i < length ss = omega (arith, size, c.loop-statement-test.true) in
     let is : s ≡ get_or ss i s = cc (c.as_slice-statement-items.ensures, c.statement-item.is) in
     let e : statement_judged g k s ≡ Ok next = c.in_default.ensures in
-    let grown = statement_grows g k next s e in
+    let grown = judged_grows g k inv.fits next s e in
     let again : i + 2 + 1 ≡ i + 1 + 2 = omega arith in
     record {
       same = inv.same ∙ next_from g (i + 2) k ss i next s lt is e ∙ ap (λ (n : ℕ). plan_from g n next (drop (i + 1) ss)) again;
       number = omega (arith, inv.number);
-      collections = omega (arith, grown.collections, inv.collections);
-      runs = omega (arith, grown.runs, inv.runs);
-      fits = statement_fits g k inv.fits next s e;
+      small = record {
+        singles = omega (arith, grown.singles, inv.small.singles);
+        collections = omega (arith, grown.collections, inv.small.collections);
+        runs = omega (arith, grown.runs, inv.small.runs);
+      };
+      fits = grown.fits;
     }

@@ -1,13 +1,12 @@
-use Rattle.std.proofs.Common.{◌≡◌, ◌+◌, ◌≤◌, drop, length}
+use Rattle.std.proofs.Common.{◌≡◌, ◌+◌, drop}
 use Rattle.gvdl_check.specs.Plans.{plan, plan_from}
-use Rattle.gvdl_check.proofs.PlanFacts.{KnownFits}
+use Rattle.gvdl_check.specs.Fits.{KnownFits, IsSmall}
 use Rattle.gvdl_check.proofs.script.judged.Given as goal
 
 abbrev pub invariant-loop-statement : goal.invariant-loop-statement
 invariant-loop-statement l = record {
   same : plan l.script l.graph ≡ plan_from l.graph (l.statement-index + 2) l.known (drop l.statement-index l.script.statements);
   number : l.number ≡ l.statement-index + 1;
-  collections : length l.known.collections ≤ l.statement-index;
-  runs : length l.known.runs ≤ l.statement-index;
+  small : IsSmall l.statement-index l.known;
   fits : KnownFits l.graph l.known;
 }

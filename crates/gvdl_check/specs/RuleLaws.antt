@@ -1,5 +1,6 @@
 -- The columns that a judged predicate names are columns of the graph.
-use Rattle.std.proofs.Common.{◌≡◌, ◌∙◌, ℕ, ◌+◌, ◌<◌, Bool, true, false, ◌&&◌, List, [], ◌∷◌, length, map, refl, sym, ap, subst, arith, if◌then◌else◌, Ok}
+use Rattle.std.proofs.Common.{◌≡◌, ◌∙◌, ℕ, ◌+◌, ◌<◌, Bool, true, false, ◌&&◌, List, [], ◌∷◌, length}
+use Rattle.std.proofs.Common.{map, refl, sym, ap, subst, arith, if◌then◌else◌, Ok}
 use Rattle.std.specs.Prelude.{bytes_eq, nat_lt}
 use Rattle.std.specs.List.{list_all}
 use Rattle.std.proofs.lemmas.Bool.Decides.{nat_tests}
@@ -15,19 +16,23 @@ use Rattle.gvdl_tree.specs.declared.predicate.Operand.TheVariants as operand
 use Rattle.gvdl_tree.specs.declared.predicate.PredTree.{PredTree}
 use Rattle.gvdl_tree.specs.declared.predicate.PredTree.TheOpen.{PredTree-F}
 use Rattle.gvdl_tree.specs.declared.predicate.PredTree.TheViews.{roll-PredTree}
-use Rattle.gvdl_tree.specs.declared.predicate.PredTree.TheFolds.{fold-roll-PredTree, map-PredTree, ind-PredTree}
+use Rattle.gvdl_tree.specs.declared.predicate.PredTree.TheFolds.{fold-roll-PredTree, map-PredTree}
+use Rattle.gvdl_tree.specs.declared.predicate.PredTree.TheFolds.{ind-PredTree}
 use Rattle.edge_predicates.specs.declared.pred.Cmp.{Cmp as CheckedCmp}
 use Rattle.edge_predicates.specs.declared.pred.Place.{Place}
 use Rattle.edge_predicates.specs.declared.pred.Place.TheVariants as place
 use Rattle.edge_predicates.specs.declared.pred.Pred.{Pred}
 use Rattle.edge_predicates.specs.declared.pred.Pred.TheVariants as pred
-use Rattle.edge_predicates.specs.declared.pred.Pred.TheVariants.{rolls-Or, rolls-And, rolls-Not, rolls-Constant, rolls-Compare, rolls-Missing}
+use Rattle.edge_predicates.specs.declared.pred.Pred.TheVariants.{rolls-Or, rolls-And, rolls-Not}
+use Rattle.edge_predicates.specs.declared.pred.Pred.TheVariants.{rolls-Constant, rolls-Compare}
+use Rattle.edge_predicates.specs.declared.pred.Pred.TheVariants.{rolls-Missing}
 use Rattle.edge_predicates.specs.declared.pred.Pred.TheOpen.{Pred-F}
 use Rattle.edge_predicates.specs.declared.pred.Pred.TheFolds.{fold-roll-Pred}
 use Rattle.gvdl_programs.specs.declared.refusal.Refusal.TheVariants as refusal
-use Rattle.gvdl_programs.specs.Judging.{Judged, ◌>>=◌, ◌>>◌, expect, each}
+use Rattle.gvdl_programs.specs.Judging.{Judged, ◌>>=◌, expect, each}
 use Rattle.gvdl_programs.specs.Columns.{column_from, column_of}
-use Rattle.gvdl_check.specs.Predicates.{source_placed, target_placed, placed, compares, sign_of, comparison, predicate, predicate_of}
+use Rattle.gvdl_check.specs.Predicates.{source_placed, target_placed, placed, compares, sign_of}
+use Rattle.gvdl_check.specs.Predicates.{comparison, predicate, predicate_of}
 use Rattle.gvdl_check.specs.Fits.{place_fits, fits, fits_of}
 use Rattle.gvdl_programs.specs.JudgingLaws.{through, same_value}
 

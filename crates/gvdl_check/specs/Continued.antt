@@ -1,0 +1,28 @@
+-- A script that is continued by further statements, and what its plan keeps.
+use Rattle.std.specs.Prelude.{◌≡◌, ℕ, List, ◌++◌, Some, slice_get}
+use Rattle.gvdl_tree.specs.declared.script.Script.{Script}
+use Rattle.gvdl_check.specs.declared.plan.CollectionPlan.{CollectionPlan}
+use Rattle.gvdl_check.specs.declared.plan.RunPlan.{RunPlan}
+use Rattle.gvdl_check.specs.declared.plan.Plan.{Plan}
+
+-- the second list is the first one, and more behind it
+abbrev pub IsFront : {A : Type 0} → List A → List A → Type 0
+IsFront {A} front all = (more : List A) × (all ≡ front ++ more)
+
+-- the same name of the graph and the same statements, with further ones behind them
+pub record IsContinued (script longer : Script) : Type 0 where
+  pub graph : longer.graph ≡ script.graph
+  pub statements : IsFront script.statements longer.statements
+
+-- the same collection, with more views behind its own
+pub record GrowsTo (before after : CollectionPlan) : Type 0 where
+  pub name : after.name ≡ before.name
+  pub views : IsFront before.views after.views
+
+-- the same statements, runs and collections, and more behind them; collections may have more views by then, and a call
+-- means one program throughout
+pub record Continues (before after : Plan) : Type 0 where
+  pub steps : IsFront before.steps after.steps
+  pub runs : IsFront before.runs after.runs
+  pub collections : (place : ℕ) (c : CollectionPlan) → slice_get before.collections place ≡ Some c → (d : CollectionPlan) × (slice_get after.collections place ≡ Some d) × GrowsTo c d
+  pub calls : (i j : ℕ) (first second : RunPlan) → slice_get after.runs i ≡ Some first → slice_get after.runs j ≡ Some second → second.call ≡ first.call → second.program ≡ first.program
