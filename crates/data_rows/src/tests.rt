@@ -2,4 +2,5 @@
 
 mod graphs;
 mod hostile_files;
+mod matrices;
 mod predicates;
