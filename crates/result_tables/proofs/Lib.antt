@@ -1,0 +1,4 @@
+pub mod Growing
+pub mod LaidOut
+pub mod Summing
+pub mod SmallGraph

@@ -1,0 +1,162 @@
+//! The text of a table, and the line that sums it up.
+
+ghost use Rattle.std.specs.Prelude.{◌≡◌, ◌++◌, length, OnOk, IfOk};
+ghost use Rattle.result_tables.specs.TableText.{IsTable, value_line, outcome_text, node_lines, rows, head_text, tail_text, totals_text, summary_tail, form_text};
+
+use crate::digits::{push_decimal, push_signed};
+use crate::form::Form;
+use crate::table::Table;
+use crate::totals::push_totals;
+use graph_model::{Graph, Val};
+use std::alloc::Global;
+use surge_outside::NoMemory;
+use vertex_lang::Outcome;
+
+// Adds the line of a node with this id and value.
+fn push_value(text: &mut Vec<u8>, id: u64, value: Val) -> Result<(), NoMemory>
+    ensures { OnOk result (text.new.items ≡ text.old.items ++ value_line id value) }
+{
+    push_decimal(text, id)?;
+    match value {
+        Val::Nil => text.extend_from_slice(b",-")?,
+        Val::Num(number) => {
+            text.push(b',')?;
+            push_signed(text, number)?;
+        }
+    }
+    text.push(b'\n')?;
+    Ok(())
+}
+
+// Adds how a run ended.
+fn push_outcome(text: &mut Vec<u8>, outcome: Outcome) -> Result<(), NoMemory>
+    ensures { OnOk result (text.new.items ≡ text.old.items ++ outcome_text outcome) }
+{
+    match outcome {
+        Outcome::Settled(rounds) => {
+            text.extend_from_slice(b"settled ")?;
+            push_decimal(text, u64::from(rounds))
+        }
+        Outcome::After(rounds) => {
+            text.extend_from_slice(b"after ")?;
+            push_decimal(text, u64::from(rounds))
+        }
+        Outcome::Unsettled => {
+            text.extend_from_slice(b"unsettled")?;
+            Ok(())
+        }
+    }
+}
+
+// Adds the line of each node by rising id.
+fn push_values(text: &mut Vec<u8>, graph: &Graph, values: &[Val]) -> Result<(), NoMemory>
+    requires { length values.now ≡ length graph.now.ids }
+    ensures { OnOk result (text.new.items ≡ text.old.items ++ node_lines graph.now values.now) }
+{
+    for i in 0..graph.node_count() {
+        let node = graph.by_id(i);
+        push_value(text, graph.id(node), values[node.0 as usize])?;
+    }
+    Ok(())
+}
+
+// Adds the lines of a table.
+fn push_rows(text: &mut Vec<u8>, graph: &Graph, table: &Table) -> Result<(), NoMemory>
+    requires { IsTable graph.now table.now }
+    ensures { OnOk result (text.new.items ≡ text.old.items ++ rows graph.now table.now.outcome table.now.values) }
+{
+    match table.outcome {
+        Outcome::Settled(_) => push_values(text, graph, table.values.as_slice()),
+        Outcome::After(_) => push_values(text, graph, table.values.as_slice()),
+        Outcome::Unsettled => Ok(()),
+    }
+}
+
+// Adds what stands behind the head of a table.
+fn push_table(text: &mut Vec<u8>, graph: &Graph, table: &Table) -> Result<(), NoMemory>
+    requires { IsTable graph.now table.now }
+    ensures { OnOk result (text.new.items ≡ text.old.items ++ tail_text graph.now table.now) }
+{
+    text.push(b' ')?;
+    push_outcome(text, table.outcome)?;
+    text.push(b'\n')?;
+    push_rows(text, graph, table)?;
+    text.extend_from_slice(b"end\n")?;
+    Ok(())
+}
+
+// Adds what a summary says of the values.
+fn push_sums(
+    alloc: Global,
+    text: &mut Vec<u8>,
+    graph: &Graph,
+    table: &Table,
+) -> Result<(), NoMemory>
+    requires { IsTable graph.now table.now }
+    ensures { OnOk result (text.new.items ≡ text.old.items ++ totals_text table.now.outcome table.now.values) }
+{
+    let _nodes = graph.node_count();
+    match table.outcome {
+        Outcome::Settled(_) => push_totals(alloc, text, table.values.as_slice()),
+        Outcome::After(_) => push_totals(alloc, text, table.values.as_slice()),
+        Outcome::Unsettled => Ok(()),
+    }
+}
+
+// Adds what stands behind the head of a summary.
+fn push_summary(
+    alloc: Global,
+    text: &mut Vec<u8>,
+    edges: u64,
+    graph: &Graph,
+    table: &Table,
+) -> Result<(), NoMemory>
+    requires { IsTable graph.now table.now }
+    ensures { OnOk result (text.new.items ≡ text.old.items ++ summary_tail edges table.now) }
+{
+    text.push(b' ')?;
+    push_outcome(text, table.outcome)?;
+    text.extend_from_slice(b" edges ")?;
+    push_decimal(text, edges)?;
+    push_sums(alloc, text, graph, table)?;
+    text.push(b'\n')?;
+    Ok(())
+}
+
+/// The text of a table in a form, under this head.
+pub(crate) fn form_text(
+    alloc: Global,
+    head: &[u8],
+    form: Form,
+    edges: u64,
+    graph: &Graph,
+    table: &Table,
+) -> Result<Vec<u8>, NoMemory>
+    requires { IsTable graph.now table.now }
+    ensures { IfOk result (λ text. text.items ≡ form_text form head.now edges graph.now table.now) }
+{
+    let mut text = Vec::from_slice(alloc, head)?;
+    match form {
+        Form::Tables => push_table(&mut text, graph, table)?,
+        Form::Summary => push_summary(alloc, &mut text, edges, graph, table)?,
+    }
+    Ok(text)
+}
+
+/// What a table is of: `view C.v P`, with the names of the collection and the view and the text of the call.
+///
+/// # Errors
+///
+/// [`NoMemory`] where a request for memory was refused.
+pub fn head_text(
+    alloc: Global,
+    collection: &str,
+    view: &str,
+    call: &[u8],
+) -> Result<Vec<u8>, NoMemory>
+    ensures { IfOk result (λ text. text.items ≡ head_text collection.now view.now call.now) }
+{
+    let mut head = format!(in alloc; "view {collection}.{view} ")?.into_bytes();
+    head.extend_from_slice(call)?;
+    Ok(head)
+}

@@ -1,0 +1,141 @@
+//! What is kept from statement to statement.
+
+ghost use Rattle.std.specs.Prelude.{◌≡◌, ℕ, ◌+◌, ◌≤◌, Some, [], true, min, length, replicate, slice_get, slice_range, All, IfOk, OnOk, if◌then◌else◌, ◌==◌};
+ghost use Rattle.gvdl_check.specs.Fits.{PlanFits};
+ghost use Rattle.view_matrix.specs.Matrices.{matrix_of, with_views};
+ghost use Rattle.gvdl_check.specs.Steps.{views_at};
+ghost use Rattle.surge_session.specs.Output.{kept_at};
+ghost use Rattle.surge_session.specs.State.{IsAt, made_at, rules_of};
+
+use graph_model::Graph;
+use gvdl_check::{CollectionPlan, Plan, RunPlan, Step, ViewPlan};
+use std::alloc::Global;
+use std::slice;
+use surge_outside::{List, NoMemory};
+use view_matrix::Matrix;
+
+/// What is kept from statement to statement.
+#[derive(Drop)]
+pub(crate) struct State {
+    /// The matrix of each collection, with the views that it has so far.
+    pub(crate) made: Vec<Matrix>,
+    /// The runs that are kept, by their places, in the order of keeping.
+    pub(crate) kept: Vec<u32>,
+}
+
+// One truth value for each edge of a graph, each true.
+fn all_live(alloc: Global, graph: &Graph) -> Result<List<bool>, NoMemory>
+    ensures { IfOk result (λ live. live ≡ replicate (length graph.now.ends) true) }
+{
+    let live = vec![in alloc; true; graph.edge_count() as usize]?;
+    Ok(List::from_vec(live))
+}
+
+// For each collection a matrix without views.
+fn empty_matrices(alloc: Global, graph: &Graph, count: usize) -> Result<Vec<Matrix>, NoMemory>
+    ensures count { IfOk result (λ made. length made.items ≡ count) }
+    ensures empty { IfOk result (λ made. All (λ m. m ≡ matrix_of graph.now (replicate (length graph.now.ends) true) []) made.items) }
+{
+    let live = all_live(alloc, graph)?;
+    let mut made = Vec::new(alloc);
+    for _place in 0..count {
+        made.push(Matrix::build(alloc, graph, &live, &[])?)?;
+    }
+    Ok(made)
+}
+
+// Adds these views to a matrix. No predicate is evaluated again.
+fn add_views(matrix: &mut Matrix, graph: &Graph, views: &[ViewPlan]) -> Result<(), NoMemory>
+    requires graph { length graph.now.ends ≡ length matrix.old.live }
+    requires few { length matrix.old.columns + length views.now ≤ 1_024 }
+    ensures { OnOk result (matrix.new ≡ with_views matrix.old graph.now (rules_of views.now)) }
+{
+    for view in views {
+        matrix.add_views(graph, slice::from_ref(&view.rule))?;
+    }
+    Ok(())
+}
+
+// Adds the next views of a collection to its matrix.
+fn grow_matrix(
+    matrix: &mut Matrix,
+    graph: &Graph,
+    collection: &CollectionPlan,
+    count: u32,
+) -> Result<(), NoMemory>
+    requires graph { length graph.now.ends ≡ length matrix.old.live }
+    requires some { length matrix.old.columns ≤ length collection.now.views }
+    requires few { length collection.now.views ≤ 1_024 }
+    ensures { OnOk result (matrix.new ≡ with_views matrix.old graph.now (rules_of (slice_range collection.now.views (length matrix.old.columns) (min (length collection.now.views) (length matrix.old.columns + count))))) }
+{
+    let views = collection.views.as_slice();
+    let before = matrix.views() as usize;
+    let more = (views.len() - before).min(count as usize);
+    add_views(matrix, graph, &views[before..before + more])
+}
+
+impl State {
+    /// Before the first statement no collection has a view, and no run is kept.
+    pub(crate) fn new(alloc: Global, graph: &Graph, plan: &Plan) -> Result<State, NoMemory>
+        ensures { IfOk result (λ state. IsAt graph.now plan.now 0 state.made.items state.kept.items) }
+    {
+        let made = empty_matrices(alloc, graph, plan.collections.len())?;
+        let kept = Vec::new(alloc);
+        Ok(State { made, kept })
+    }
+
+    /// How many views a collection has, by its place.
+    pub(crate) fn views(&self, graph: &Graph, plan: &Plan, n: usize, place: u32) -> u32
+        requires { IsAt graph.now plan.now n self.now.made.items self.now.kept.items }
+        ensures { result ≡ length (made_at plan.now n place) }
+    {
+        match self.made.as_slice().get(place as usize) {
+            Some(matrix) => matrix.views(),
+            None => 0,
+        }
+    }
+
+    /// Gives a collection more views, as a statement asks for.
+    pub(crate) fn grow(
+        &mut self,
+        graph: &Graph,
+        plan: &Plan,
+        n: usize,
+        place: u32,
+        count: u32,
+    ) -> Result<(), NoMemory>
+        requires fits { PlanFits graph.now plan.now }
+        requires at { IsAt graph.now plan.now n self.old.made.items self.old.kept.items }
+        requires views { (other : ℕ) → views_at plan.now (n + 1) other ≡ views_at plan.now n other + (if place == other then count else 0) }
+        requires kept { kept_at plan.now (n + 1) ≡ kept_at plan.now n }
+        ensures { OnOk result (IsAt graph.now plan.now (n + 1) self.new.made.items self.new.kept.items) }
+    {
+        match plan.collections.as_slice().get(place as usize) {
+            Some(collection) => {
+                let matrix = &mut self.made[place as usize];
+                grow_matrix(matrix, graph, collection, count)
+            }
+            None => Ok(()),
+        }
+    }
+
+    /// Keeps a run, where it has a name under which it is kept.
+    pub(crate) fn keep(
+        &mut self,
+        graph: &Graph,
+        plan: &Plan,
+        n: usize,
+        place: u32,
+        run: &RunPlan,
+    ) -> Result<(), NoMemory>
+        requires at { IsAt graph.now plan.now n self.old.made.items self.old.kept.items }
+        requires step { slice_get plan.now.steps n ≡ Some (Step.Run place) }
+        requires run { slice_get plan.now.runs place ≡ Some run.now }
+        ensures { OnOk result (IsAt graph.now plan.now (n + 1) self.new.made.items self.new.kept.items) }
+    {
+        if run.keep.is_some() {
+            self.kept.push(place)?;
+        }
+        Ok(())
+    }
+}
