@@ -1,9 +1,6 @@
 pub mod CommandLine
 pub mod Fronts
-pub mod Growing
-pub mod ViewEdges
 pub mod Written
-pub mod Runs
 pub mod GoingOn
 pub mod Reaching
 pub mod Fetching

@@ -2,7 +2,6 @@ pub mod FilesState
 pub mod Words
 pub mod Reading
 pub mod ReadingAnswer
-pub mod TableText
 pub mod Output
 pub mod StatusText
 pub mod Expected

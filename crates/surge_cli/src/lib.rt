@@ -1,14 +1,14 @@
-//! The program as one call, from the bytes of three files to the bytes of its tables.
+//! The program as one call, from the bytes of three files to the bytes of its output.
 //!
 //! It stands on the rooms that read (`graph_loader`, `gvdl_parser`), on those that check and print a script (`gvdl_check`,
-//! `gvdl_printer`), on the truth of predicates (`edge_predicates`), on the room that runs (`vertex_lang`), on the ends of
-//! the program (`surge_outside`) and on `clap`, which reads the words. Its public call is [`surge`], which the program's
-//! `main` makes with the real ends. Inside, in the order of the walk: the words, whole files within their limits, the
-//! stages up to a plan over a graph, the text of tables, the session that makes each run alone on each view, and the line
-//! of a status. Its promise is the headline, in `specs/Headline.antt`: where the files tell their bytes and the status is
-//! [`Status::Done`], what was written is exactly the tables of the lone runs over the edges of each view, statement by
-//! statement (`specs/Output.antt`), and every other status is the one that is expected (`specs/Expected.antt`) or has its
-//! cause (`specs/Causes.antt`), that of a file only where the file was reached (`specs/Reaches.antt`).
+//! `gvdl_printer`), on the room that executes a plan (`surge_session`), on the ends of the program (`surge_outside`) and on
+//! `clap`, which reads the words. Its public call is [`surge`], which the program's `main` makes with the real ends. Inside,
+//! in the order of the walk: the words, whole files within their limits, the stages up to a plan over a graph, its
+//! execution, and the line of a status. Its promise is the headline, in `specs/Headline.antt`: where the files tell their
+//! bytes and the status is [`Status::Done`], what was written is exactly the text of each statement, of which the tables are
+//! those of the lone runs over the edges of each view (`specs/Output.antt`, and `Output.antt` of `surge_session`), and every
+//! other status is the one that is expected (`specs/Expected.antt`) or has its cause (`specs/Causes.antt`), that of a file
+//! only where the file was reached (`specs/Reaches.antt`).
 #![tactic(auto)]
 
 mod job;
@@ -19,7 +19,6 @@ mod script_line;
 mod session;
 mod stages;
 mod status;
-mod table;
 mod words;
 
 pub use graph_loader::{DataFault, DataFile, DataKind};

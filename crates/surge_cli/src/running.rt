@@ -79,14 +79,17 @@ fn report<E: Sink>(alloc: Global, status: Status, err: &mut E) -> Status
     }
 }
 
-/// Runs the program: reads the script that the words name and the two data files that it names, checks the script, makes
-/// each of its runs alone on each view, and writes the tables to `out`; or, in the mode `check`, writes the script's
-/// canonical text. A status other than [`Status::Done`] is reported to `err` as one line.
+/// Runs the program: reads the script that the words name and the two data files that it names, checks the script, executes
+/// its statements one after the other and writes to `out` what they print: the tables of each run alone on each view of its
+/// collection, those of each kept run on the views that an append adds, and the order of a collection's views where it is
+/// shown; or, in the mode `check`, writes the script's canonical text. A status other than [`Status::Done`] is reported to
+/// `err` as one line.
 ///
 /// The words are the program's name and `(--script FILE | --sample N) [--mode run|check|summary] [--turns N]`, as `clap`
-/// reads four options that each take one text; so far only `--script` is built, with the modes `run` and `check`. What is
-/// told of the files decides the status, unless the outside fails or memory is wanting: the first refusal in the order of
-/// reading, or the output. Views and collections of views are those of Graphsurge (Sahu and Salihoglu 2021).
+/// reads four options that each take one text; so far only `--script` is built, with the modes `run` and `check`, and of
+/// statements all but a run with a split and a show of work. What is told of the files decides the status, unless the
+/// outside fails or memory is wanting: the first refusal in the order of reading, or the output. Views and collections of
+/// views are those of Graphsurge (Sahu and Salihoglu 2021).
 pub fn surge<F: NamedFiles, O: Sink, E: Sink, U: Updater>(
     alloc: Global,
     words: &[String],

@@ -24,14 +24,15 @@ pub enum FileRole {
 pub enum Unbuilt {
     /// The words of the command line ask for a sample, for turns, or for the summary.
     Words,
-    /// The statement of this number, from 1; the load is statement 1. No statement before it has a fault.
+    /// The statement of this number, from 1, which shows the work of a run or is a run with a split; the load is statement 1.
+    /// No statement before it has a fault.
     Statement(u32),
 }
 
 /// How a run of the program ended.
 #[derive(Clone, Copy, Debug, PartialEq, Eq)]
 pub enum Status {
-    /// Every table was written.
+    /// All that is asked for was written.
     Done,
     /// The words of the command line are not of the form.
     Usage,

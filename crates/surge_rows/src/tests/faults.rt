@@ -1,9 +1,22 @@
 //! What calls that fail, and pieces that are cut, do to a run.
 
-use super::{EDGES, SCRIPT, TABLES, contents, row, run, sure, whole};
+use super::{EDGES, NODES, SCRIPT, TABLES, contents, row, run, sure, whole};
 use crate::Ends;
 use std::test::Fail;
 use surge_cli::{FileRole, Status};
+
+// A run that is kept, an append and an order.
+const GROWING: &str =
+    "load graph G nodes 'n4.csv' edges 'e1.csv';\ncreate view collection C on G [a: y <= 1], [b: y <= 2];\nrun hops(1) on C within 10 rounds keep as K;\nappend to C [c: y = 2 or y = 3], [d: y = 3];\nshow order C;\n";
+
+// What it prints, piece by piece.
+const GROWN: [&str; 5] = [
+    "view C.a hops(1) settled 2\n1,0\n2,1\n3,2\n4,-\nend\n",
+    "view C.b hops(1) settled 1\n1,0\n2,1\n3,1\n4,-\nend\n",
+    "view C.c hops(1) settled 2\n1,0\n2,-\n3,1\n4,2\nend\n",
+    "view C.d hops(1) settled 0\n1,0\n2,-\n3,-\n4,-\nend\n",
+    "order C 6\nd 1\nc 1\nb 3\na 1\nend\n",
+];
 
 const CHECK: [&str; 5] = ["surge", "--script", "s", "--mode", "check"];
 
@@ -94,6 +107,25 @@ fn a_failing_write_leaves_whole_tables(rt: HostRuntime) -> Result<(), Fail> {
     assert_eq!(rt; left.status, Status::WriteFault);
     assert!(rt; TABLES.as_bytes().starts_with(left.out.as_slice()));
     assert_eq!(rt; left.out.len(), 94);
+    Ok(())
+}
+
+#[test]
+fn what_stands_behind_a_kept_run_goes_out_in_whole_texts(rt: HostRuntime) -> Result<(), Fail> {
+    let files = contents(GROWING, Some(NODES), Some(EDGES));
+    for call in 1..7 {
+        let ends = Ends {
+            write: Some(call),
+            ..sure(4096)
+        };
+        let left = row(&rt, &files, ends)?;
+        let mut out = String::new(rt.alloc());
+        for text in GROWN.iter().take(call as usize - 1) {
+            out.push_str(text)?;
+        }
+        assert_eq!(rt; left.out.as_slice(), out.as_bytes(), "at write {call}");
+        assert!(rt; (left.status == Status::Done) == (call == 6));
+    }
     Ok(())
 }
 
