@@ -61,6 +61,66 @@ fn step(counts: &mut HashMap<u32, u64>, fed: &Fed, evaluations: &mut u64) -> Mad
     made
 }
 
+/// One key that changes in each of 200 rounds of eight positions: what was fed and made of it, at their times.
+#[derive(Default)]
+struct Touched {
+    fed: Vec<(u32, (u32, u32))>,
+    made: Vec<((u64, i64), (u32, u32))>,
+}
+
+fn leq(s: (u32, u32), t: (u32, u32)) -> bool {
+    s.0 <= t.0 && s.1 <= t.1
+}
+
+/// Feeds a value; the sum of the counts that are made.
+fn touch(key: &mut Touched, value: u32, t: (u32, u32)) -> u64 {
+    key.fed.push((value, t));
+    let mut values: Vec<u32> = key.fed.iter().filter(|(_, s)| leq(*s, t)).map(|(value, _)| *value).collect();
+    values.sort_unstable();
+    values.dedup();
+    let mut change: Vec<(u64, i64)> = key.made.iter().filter(|(_, s)| leq(*s, t)).map(|((count, weight), _)| (*count, -weight)).collect();
+    change.push((values.len() as u64, 1));
+    change.sort_unstable();
+    change.dedup_by(|next, last| {
+        let same = next.0 == last.0;
+        if same {
+            last.1 += next.1;
+        }
+        same
+    });
+    change.retain(|(_, weight)| *weight != 0);
+    let sum = change.iter().fold(0u64, |sum, (count, weight)| sum.wrapping_add(count.wrapping_mul(*weight as u64)));
+    key.made.extend(change.into_iter().map(|entry| (entry, t)));
+    sum
+}
+
+/// Two hundred rounds of each of some positions.
+fn laps(key: &mut Touched, positions: std::ops::Range<u32>, evaluations: &mut u64) -> u64 {
+    let mut sum = 0u64;
+    for position in positions {
+        for round in 0..200 {
+            sum = sum.wrapping_add(touch(key, round % 100, (position, round)));
+            *evaluations += 1;
+        }
+    }
+    sum
+}
+
+/// Microseconds at the fourth position and at the last, the total of the counts and how many evaluations there were.
+fn rounds() -> (u128, u128, u64, u64) {
+    let mut key = Touched::default();
+    let mut evaluations = 0;
+    let mut sum = laps(&mut key, 0..3, &mut evaluations);
+    let start = processor_time();
+    sum = sum.wrapping_add(laps(&mut key, 3..4, &mut evaluations));
+    let fourth = since(start);
+    sum = sum.wrapping_add(laps(&mut key, 4..7, &mut evaluations));
+    let start = processor_time();
+    sum = sum.wrapping_add(laps(&mut key, 7..8, &mut evaluations));
+    let last = since(start);
+    (fourth, last, sum, evaluations)
+}
+
 fn insert<V: Copy + Ord + Hash>(trace: &mut Vec<Entry<V>>, batch: impl Iterator<Item = ((u32, V), i64)>, t: (u32, u32)) {
     let right: Vec<Entry<V>> = batch.map(|(record, weight)| ((record, t), weight)).collect();
     let left = std::mem::take(trace);
@@ -115,11 +175,14 @@ fn measured(records: u32) -> (u128, u128, u128, u64, u64) {
 fn main() {
     let (load, steps, inserts, sum, evaluations) = measured(250_000);
     let (load_more, steps_more, inserts_more, sum_more, evaluations_more) = measured(1_000_000);
-    println!("counts {sum} {evaluations} {sum_more} {evaluations_more}");
+    let (fourth, last, sum_rounds, evaluations_rounds) = rounds();
+    println!("counts {sum} {evaluations} {sum_more} {evaluations_more} {sum_rounds} {evaluations_rounds}");
     println!("load_250000 {load}");
     println!("steps_250000 {steps}");
     println!("inserts_250000 {inserts}");
     println!("load_1000000 {load_more}");
     println!("steps_1000000 {steps_more}");
     println!("inserts_1000000 {inserts_more}");
+    println!("rounds_at_fourth {fourth}");
+    println!("rounds_at_last {last}");
 }

@@ -130,6 +130,36 @@ fn read(trace: &[Vec<Entry>], step: u32) -> u64 {
     count
 }
 
+/// How many entries all keys have, by one place in each layer that moves forward.
+fn walk(trace: &[Vec<Entry>]) -> u64 {
+    let mut places = vec![0; trace.len()];
+    let mut entries: Vec<Entry> = Vec::new();
+    let mut count = 0;
+    for key in 0..1_000_000 {
+        entries.clear();
+        for (layer, place) in trace.iter().zip(&mut places) {
+            while *place < layer.len() && layer[*place].0.0.0 < key {
+                *place += 1;
+            }
+            while *place < layer.len() && layer[*place].0.0.0 == key {
+                entries.push(layer[*place]);
+                *place += 1;
+            }
+        }
+        entries.sort_unstable();
+        entries.dedup_by(|next, last| {
+            let same = next.0 == last.0;
+            if same {
+                last.1 = last.1.wrapping_add(next.1);
+            }
+            same
+        });
+        entries.retain(|entry| entry.1 != 0);
+        count += entries.len() as u64;
+    }
+    count
+}
+
 fn main() {
     let start = Instant::now();
     let mut trace = Vec::new();
@@ -153,6 +183,9 @@ fn main() {
     }
     let small = start.elapsed().as_micros();
     let start = Instant::now();
+    let walked = walk(&trace);
+    let walk_time = start.elapsed().as_micros();
+    let start = Instant::now();
     let left: Vec<Entry> = trace[0].iter().copied().step_by(2).collect();
     let right: Vec<Entry> = trace[0].iter().copied().skip(1).step_by(2).collect();
     let halves = start.elapsed().as_micros();
@@ -163,12 +196,13 @@ fn main() {
     let start = Instant::now();
     seal(&mut trace, (6, 1));
     let again = start.elapsed().as_micros();
-    println!("values {rising} {scattered} {after} {}", trace[0].len());
+    println!("values {rising} {scattered} {after} {walked} {}", trace[0].len());
     println!("insert {inserted}");
     println!("accumulate {in_order}");
     println!("accumulate_anywhere {anywhere}");
     println!("seal {sealed}");
     println!("thousand_inserts {small}");
+    println!("walk {walk_time}");
     println!("seal_after_inserts {again}");
     eprintln!("merge_of_halves {merged}");
 }

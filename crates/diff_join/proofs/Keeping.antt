@@ -12,8 +12,9 @@ use Rattle.weighted.specs.SumLaws.{filtered, filtered-append}
 use Rattle.weighted.specs.WordLaws.{mapped, mapped-append}
 use Rattle.trace_store.specs.Traces.{in_turn}
 use Rattle.flow_core.specs.Runs.{Every, IsNextDue, Member}
+use Rattle.flow_core.specs.Lists.{Member-split}
 use Rattle.diff_join.specs.Joins.{due_times, products_after, products_at}
-use Rattle.diff_join.specs.ListLaws.{Every-normal, Member-cases, due-append}
+use Rattle.diff_join.specs.ListLaws.{Every-normal, due-append}
 
 other_time : {T : Type 0} (tcmp : T → T → Ordering) (order : IsTotalOrder tcmp) (t s : T) → is_ne (tcmp s t) ≡ true → s ≢ t
 other_time tcmp order t s h e = let k : is_ne (tcmp s t) ≡ false = ap is_ne (ap (λ v. tcmp v t) e ∙ tied_itself order t) in absurd (cc)
@@ -49,7 +50,7 @@ module _ {T O : Type 0} where
     pub exchanged_times : (cmp : T × O → T × O → Ordering) (old products new : List ((T × O) × ℕ)) → new ≡ normal cmp (products_after tcmp t (old ++ products)) → (d : T) → Member d (due_times new) → (Member d (due_times old) ⊎ Member d (due_times products)) × (d ≢ t)
     exchanged_times cmp old products new n d m =
         let both = released_times cmp (old ++ products) new n d m in
-        (Member-cases d (due_times old) (due_times products) (subst (λ v. Member d v) (due-append old products) both.0), both.1)
+        (Member-split d (due_times old) (due_times products) (subst (λ v. Member d v) (due-append old products) both.0), both.1)
 
   -- ---- what is made and kept of the products that waited and of the new ones
 

@@ -4,12 +4,11 @@ use Rattle.std.specs.Cmp.{IsTotalOrder}
 use Rattle.std.specs.Ordering.{is_gt, ordering_reverse}
 use Rattle.std.specs.declared.cmp.Ordering.TheVariants.{Less, Equal, Greater}
 use Rattle.flow_core.specs.Runs.{Every, Member, NoneAbove, NoneBelow}
-use Rattle.flow_core.specs.Lists.{Every-map}
-use Rattle.diff_join.specs.ListLaws.{each_of}
+use Rattle.flow_core.specs.Lists.{Every-map, Every-member}
 
 -- no time of the run is at or above it
 pub none_above_due : {T : Type 0} (leq : T → T → Bool) (t : T) (due times : List T) → Member t due → Every (λ s. NoneBelow leq s due) times → NoneAbove leq t times
-none_above_due leq t due times m h = Every-map (λ s. NoneBelow leq s due) (λ s. leq t s ≡ false) times (λ s k. each_of (λ d. leq d s ≡ false) due t k m) h
+none_above_due leq t due times m h = Every-map (λ s. NoneBelow leq s due) (λ s. leq t s ≡ false) times (λ s k. Every-member (λ d. leq d s ≡ false) due t k m) h
 
 neither_gt : (o p : Ordering) → p ≡ ordering_reverse o → is_gt o ≡ false → is_gt p ≡ false → o ≡ Equal
 neither_gt Less Less e h k = absurd (cc)

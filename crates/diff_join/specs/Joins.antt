@@ -1,5 +1,5 @@
 -- The function of a join, and products of differences at their times.
-use Rattle.std.specs.Prelude.{ℕ, Bool, List, [], ◌∷◌, ◌++◌, if◌then◌else◌, Option, Some, None}
+use Rattle.std.specs.Prelude.{◌≡◌, ℕ, Bool, List, [], ◌∷◌, ◌++◌, if◌then◌else◌, Option, Some, None}
 use Rattle.std.specs.declared.cmp.Ordering.{Ordering}
 use Rattle.std.specs.Ordering.{is_eq, is_ne}
 use Rattle.weighted.specs.WordLaws.{mapped}
@@ -28,6 +28,13 @@ unkeyed gives r = gives r.0.0 r.0.1 r.1.1
 -- the function of a join: what the pairing gives for each left record with each right one, with the product of their weights
 abbrev pub joined_sides : {K A B O : Type 0} → (K → K → Ordering) → (K → A → B → Option O) → List (Side (K × A) (K × B) × ℕ) → List (O × ℕ)
 joined_sides kcmp gives es = given (pairs kcmp gives) (product (lefts es) (rights es))
+
+-- ---- entries of one key
+
+-- the entries are those of the key that is held, where one is
+abbrev pub AreHeld : {K W T : Type 0} → (K → K → Ordering) → List (((K × W) × T) × ℕ) → Option K → List (((K × W) × T) × ℕ) → Type 0
+AreHeld kcmp all None entries = Unit {0}
+AreHeld kcmp all (Some k) entries = entries ≡ filtered (λ r. is_eq (kcmp r.0.0 k)) all
 
 -- ---- products at times
 

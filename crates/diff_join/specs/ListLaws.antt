@@ -1,46 +1,14 @@
--- Laws of lists of times, of runs with one more step, and of the times of products.
-use Rattle.std.specs.Prelude.{◌≡◌, ℕ, ◌*◌, ◌%◌, ◌^◌, ◌==◌, ◌⊎◌, Bool, true, false, List, [], ◌∷◌, ◌++◌, if◌then◌else◌, Option, Some, None, refl}
+-- Laws of the records of a normal form, and of the times of products.
+use Rattle.std.specs.Prelude.{◌≡◌, ℕ, ◌*◌, ◌%◌, ◌^◌, ◌==◌, Bool, true, false, List, [], ◌∷◌, ◌++◌, if◌then◌else◌, Option, Some, None, refl}
 use Rattle.std.specs.declared.cmp.Ordering.{Ordering}
 use Rattle.std.specs.declared.cmp.Ordering.TheVariants.{Less, Equal, Greater}
-use Rattle.std.proofs.Common.{ap, sym, subst, ◌∙◌, inl, inr, append_assoc}
-use Rattle.std.proofs.lemmas.List.{append-nil}
+use Rattle.std.proofs.Common.{ap}
 use Rattle.weighted.specs.WordLaws.{mapped}
 use Rattle.weighted.specs.SumLaws.{filtered, product, paired, wrapped}
 use Rattle.weighted.specs.Normal.{put, put_by, merged, trimmed, normal}
 use Rattle.trace_store.specs.Traces.{at_time, later}
-use Rattle.flow_core.specs.Runs.{Step, Every, Member, NoneBelow, fed_to, made_to, times_of}
+use Rattle.flow_core.specs.Runs.{Every, NoneBelow}
 use Rattle.diff_join.specs.Joins.{one, given, timed, at_bound, products_to, due_times}
-
--- ---- members
-
-pub each_of : {A : Type 0} (P : A → Type 0) (xs : List A) (x : A) → Every P xs → Member x xs → P x
-each_of P [] x h m = absurd m
-each_of P (y ∷ xs) x h (inl e) = subst P (sym e) h.0
-each_of P (y ∷ xs) x h (inr m) = each_of P xs x h.1 m
-
-pub every_member : {A : Type 0} (P : A → Type 0) (xs : List A) → ((x : A) → Member x xs → P x) → Every P xs
-every_member P [] f = tt
-every_member P (x ∷ xs) f = (f x (inl refl), every_member P xs (λ y m. f y (inr m)))
-
-pub Member-cases : {A : Type 0} (x : A) (xs ys : List A) → Member x (xs ++ ys) → Member x xs ⊎ Member x ys
-Member-cases x [] ys m = inr m
-Member-cases x (y ∷ xs) ys (inl e) = inl (inl e)
-Member-cases x (y ∷ xs) ys (inr m) = elim (Member-cases x xs ys m) [ inl a ↦ inl (inr a) | inr b ↦ inr b ]
-
--- ---- one more step
-
-module _ {T I O : Type 0} (leq : T → T → Bool) (t : T) (fed : List (I × ℕ)) (made : List (O × ℕ)) where
-  pub times_more : (steps : List (Step T I O)) → times_of (steps ++ record { time = t; fed = fed; made = made } ∷ []) ≡ times_of steps ++ t ∷ []
-  times_more [] = refl
-  times_more (s ∷ ss) = ap (λ v. s.time ∷ v) (times_more ss)
-
-  pub fed_more : (steps : List (Step T I O)) (u : T) → fed_to leq (steps ++ record { time = t; fed = fed; made = made } ∷ []) u ≡ fed_to leq steps u ++ (if leq t u then fed else [])
-  fed_more [] u = append-nil (if leq t u then fed else [])
-  fed_more (s ∷ ss) u = ap (λ v. (if leq s.time u then s.fed else []) ++ v) (fed_more ss u) ∙ sym (append_assoc (if leq s.time u then s.fed else []) (fed_to leq ss u) (if leq t u then fed else []))
-
-  pub made_more : (steps : List (Step T I O)) (u : T) → made_to leq (steps ++ record { time = t; fed = fed; made = made } ∷ []) u ≡ made_to leq steps u ++ (if leq t u then made else [])
-  made_more [] u = append-nil (if leq t u then made else [])
-  made_more (s ∷ ss) u = ap (λ v. (if leq s.time u then s.made else []) ++ v) (made_more ss u) ∙ sym (append_assoc (if leq s.time u then s.made else []) (made_to leq ss u) (if leq t u then made else []))
 
 -- ---- records of a normal form
 

@@ -11,9 +11,10 @@ use Rattle.trace_store.specs.Traces.{accumulated, later}
 use Rattle.flow_core.specs.declared.side.Side.{Side}
 use Rattle.flow_core.specs.Runs.{Run, Answers, Every, Member, NoneBelow, IsLubOf, continued, sealed, empty_run, fed_to, made_to, times_of}
 use Rattle.flow_core.specs.Lists.{Every-append, Every-map, Member-front, Member-back}
+use Rattle.flow_core.specs.RunLaws.{times_of-append, fed_to_last, made_to_last}
 use Rattle.diff_join.specs.Joins.{joined_sides, due_times}
 use Rattle.diff_join.specs.Standing.{IsReadAs, StandsByProducts}
-use Rattle.diff_join.specs.ListLaws.{times_more, fed_more, made_more, Every-normal, Every-later, none_to}
+use Rattle.diff_join.specs.ListLaws.{Every-normal, Every-later, none_to}
 
 module _ {T K A B O : Type 0} {leq : T → T → Bool} {lub : T → T → T} (lattice : IsLattice leq lub) (kcmp : K → K → Ordering) (gives : K → A → B → Option O) where
   -- a join that was not stepped yet
@@ -91,9 +92,9 @@ module _ {T K A B O : Type 0} {leq : T → T → Bool} {lub : T → T → T} (la
 
   pub join_idle : (seal : T) (left : List (((K × A) × T) × ℕ)) (right : List (((K × B) × T) × ℕ)) (kept : List ((T × O) × ℕ)) (run : Run T (Side (K × A) (K × B)) O) (t : T) → StandsByProducts leq lub (joined_sides kcmp gives) seal left right kept run → NoneBelow leq t (due_times kept) → StandsByProducts leq lub (joined_sides kcmp gives) seal left right kept (continued run t [] [])
   join_idle seal left right kept run t h below =
-      let times : times_of (continued {I = Side (K × A) (K × B)} {O = O} run t [] []).steps ≡ times_of run.steps ++ t ∷ [] = times_more leq t [] [] run.steps in
-      let fed : (u : T) → fed_to leq (continued {I = Side (K × A) (K × B)} {O = O} run t [] []).steps u ≡ fed_to leq run.steps u = λ u. fed_more leq t [] [] run.steps u ∙ nothing_more (leq t u) (fed_to leq run.steps u) in
-      let made : (u : T) → made_to leq (continued {I = Side (K × A) (K × B)} {O = O} run t [] []).steps u ≡ made_to leq run.steps u = λ u. made_more leq t [] [] run.steps u ∙ nothing_more (leq t u) (made_to leq run.steps u) in
+      let times : times_of (continued {I = Side (K × A) (K × B)} {O = O} run t [] []).steps ≡ times_of run.steps ++ t ∷ [] = times_of-append run.steps (record { time = t; fed = []; made = [] } ∷ []) in
+      let fed : (u : T) → fed_to leq (continued {I = Side (K × A) (K × B)} {O = O} run t [] []).steps u ≡ fed_to leq run.steps u = λ u. fed_to_last leq run.steps (record { time = t; fed = []; made = [] }) u ∙ nothing_more (leq t u) (fed_to leq run.steps u) in
+      let made : (u : T) → made_to leq (continued {I = Side (K × A) (K × B)} {O = O} run t [] []).steps u ≡ made_to leq run.steps u = λ u. made_to_last leq run.steps (record { time = t; fed = []; made = [] }) u ∙ nothing_more (leq t u) (made_to leq run.steps u) in
       record {
         base = h.base;
         left_sums = λ u over. rw (fed u) (h.left_sums u over);

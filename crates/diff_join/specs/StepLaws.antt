@@ -13,10 +13,11 @@ use Rattle.trace_store.specs.Traces.{accumulated, at_time}
 use Rattle.flow_core.specs.declared.side.Side.{Side}
 use Rattle.flow_core.specs.Sides.{lefts, rights}
 use Rattle.flow_core.specs.Runs.{Run, Every, Member, NoneAbove, NoneBelow, IsLubOf, continued, fed_to, made_to, times_of}
-use Rattle.flow_core.specs.Lists.{Every-append, Every-map}
+use Rattle.flow_core.specs.Lists.{Every-append, Every-map, Every-member, Every-of}
+use Rattle.flow_core.specs.RunLaws.{times_of-append, fed_to_last, made_to_last}
 use Rattle.diff_join.specs.Joins.{given, pairs, joined_sides, at_bound, products_to, products_at, products_after, due_times}
 use Rattle.diff_join.specs.Standing.{IsReadAs, StandsByProducts}
-use Rattle.diff_join.specs.ListLaws.{each_of, every_member, times_more, fed_more, made_more, Every-normal, Every-at_time, due-append, due-wrapped, due_product}
+use Rattle.diff_join.specs.ListLaws.{Every-normal, Every-at_time, due-append, due-wrapped, due_product}
 use Rattle.diff_join.specs.BoundLaws.{Alike-at_bound, Alike-products_to, products_to-append, Alike-parted}
 use Rattle.diff_join.specs.PairLaws.{turned_gives, Alike-turned, products_more, lefts_more, rights_more}
 use Rattle.diff_join.specs.RunLaws.{IsNewTime, read_more, read_now, lub_more, new_time}
@@ -71,7 +72,7 @@ module _ {T K A B O : Type 0} {leq : T → T → Bool} {lub : T → T → T} (la
 
   -- each due time was due before, or is new; and t is not among them
   due_cases : (Q : T → Type 0) (t : T) (old fresh new : List ((T × O) × ℕ)) (made : List (O × ℕ)) → IsReleased tcmp t old fresh new made → Every Q (due_times fresh) → (d : T) → Member d (due_times new) → (Member d (due_times old) ⊎ Q d) × (d ≢ t)
-  due_cases Q t old fresh new made r h d m = (elim (r.times d m).0 [ inl o ↦ inl o | inr n ↦ inr (each_of Q (due_times fresh) d h n) ], (r.times d m).1)
+  due_cases Q t old fresh new made r h d m = (elim (r.times d m).0 [ inl o ↦ inl o | inr n ↦ inr (Every-member Q (due_times fresh) d h n) ], (r.times d m).1)
 
   not_true : (b : Bool) → (IsTrue b → ⊥) → b ≡ false
   not_true true f = absurd (f refl)
@@ -94,7 +95,7 @@ module _ {T K A B O : Type 0} {leq : T → T → Bool} {lub : T → T → T} (la
 
     -- each due time was due before, or is at or above t
     pub join_due : Every (λ d. Member d (due_times old) ⊎ IsTrue (leq t d)) (due_times new)
-    join_due = every_member (λ d. Member d (due_times old) ⊎ IsTrue (leq t d)) (due_times new) (λ d m. elim (due_cases (IsNewTime lattice kcmp gives seal t (times_of run.steps ++ t ∷ [])) t old fresh new made released fresh_times d m).0 [ inl o ↦ inl o | inr n ↦ inr n.2 ])
+    join_due = Every-of (λ d. Member d (due_times old) ⊎ IsTrue (leq t d)) (due_times new) (λ d m. elim (due_cases (IsNewTime lattice kcmp gives seal t (times_of run.steps ++ t ∷ [])) t old fresh new made released fresh_times d m).0 [ inl o ↦ inl o | inr n ↦ inr n.2 ])
 
     sums_to : (u : T) → IsTrue (leq seal u) → Alike ((made_to leq run.steps u ++ (if leq t u then made else [])) ++ products_to leq u new) (joined_sides kcmp gives (fed_to leq run.steps u ++ (if leq t u then fed else [])))
     sums_to u above = products_more kcmp gives (leq t u) (made_to leq run.steps u) made (products_to leq u old) (products_to leq u new) (products_to leq u (products_of lub (pairs kcmp gives) t dl new_right)) (products_to leq u (products_of lub (pairs kcmp (turned_gives kcmp order ksame gives)) t dr left)) (fed_to leq run.steps u) fed (accumulated leq u left) dl (accumulated leq u right) dr (accumulated leq u new_right)
@@ -104,35 +105,35 @@ module _ {T K A B O : Type 0} {leq : T → T → Bool} {lub : T → T → T} (la
         (released_to t u old fresh new (products_of lub (pairs kcmp gives) t dl new_right) (products_of lub (pairs kcmp (turned_gives kcmp order ksame gives)) t dr left) made fresh_is released)
 
     lubs_now : Every (λ d. IsLubOf lub (times_of run.steps ++ t ∷ []) d × IsTrue (leq seal d)) (due_times new)
-    lubs_now = every_member (λ d. IsLubOf lub (times_of run.steps ++ t ∷ []) d × IsTrue (leq seal d)) (due_times new) (λ d m. elim (due_cases (IsNewTime lattice kcmp gives seal t (times_of run.steps ++ t ∷ [])) t old fresh new made released fresh_times d m).0 [
-      | inl o ↦ (let w : IsLubOf lub (times_of run.steps) d × IsTrue (leq seal d) = each_of (λ e. IsLubOf lub (times_of run.steps) e × IsTrue (leq seal e)) (due_times old) d h.lubs o in (lub_more lattice kcmp gives t (times_of run.steps) d w.0, w.1))
+    lubs_now = Every-of (λ d. IsLubOf lub (times_of run.steps ++ t ∷ []) d × IsTrue (leq seal d)) (due_times new) (λ d m. elim (due_cases (IsNewTime lattice kcmp gives seal t (times_of run.steps ++ t ∷ [])) t old fresh new made released fresh_times d m).0 [
+      | inl o ↦ (let w : IsLubOf lub (times_of run.steps) d × IsTrue (leq seal d) = Every-member (λ e. IsLubOf lub (times_of run.steps) e × IsTrue (leq seal e)) (due_times old) d h.lubs o in (lub_more lattice kcmp gives t (times_of run.steps) d w.0, w.1))
       | inr n ↦ (n.0, n.1)
     ])
 
     -- no new product stands at or below an earlier time, since it stands above t
     ahead_before : NoneAbove leq t (times_of run.steps) → Every (λ s. NoneBelow leq s (due_times new)) (times_of run.steps)
-    ahead_before above = every_member (λ s. NoneBelow leq s (due_times new)) (times_of run.steps) (λ s k. every_member (λ d. leq d s ≡ false) (due_times new) (λ d m. elim (due_cases (IsNewTime lattice kcmp gives seal t (times_of run.steps ++ t ∷ [])) t old fresh new made released fresh_times d m).0 [
-      | inl o ↦ each_of (λ e. leq e s ≡ false) (due_times old) d (each_of (λ v. NoneBelow leq v (due_times old)) (times_of run.steps) s h.ahead k) o
-      | inr n ↦ not_true (leq d s) (λ w. false_not (leq t s) (each_of (λ v. leq t v ≡ false) (times_of run.steps) s above k) (lattice.transitive t d s n.2 w))
+    ahead_before above = Every-of (λ s. NoneBelow leq s (due_times new)) (times_of run.steps) (λ s k. Every-of (λ d. leq d s ≡ false) (due_times new) (λ d m. elim (due_cases (IsNewTime lattice kcmp gives seal t (times_of run.steps ++ t ∷ [])) t old fresh new made released fresh_times d m).0 [
+      | inl o ↦ Every-member (λ e. leq e s ≡ false) (due_times old) d (Every-member (λ v. NoneBelow leq v (due_times old)) (times_of run.steps) s h.ahead k) o
+      | inr n ↦ not_true (leq d s) (λ w. false_not (leq t s) (Every-member (λ v. leq t v ≡ false) (times_of run.steps) s above k) (lattice.transitive t d s n.2 w))
     ]))
 
     -- nor at or below t, since what stands at t went out
     ahead_now : Every (λ d. IsTrue (leq d t) → d ≡ t) (due_times old) → NoneBelow leq t (due_times new)
-    ahead_now due = every_member (λ d. leq d t ≡ false) (due_times new) (λ d m.
+    ahead_now due = Every-of (λ d. leq d t ≡ false) (due_times new) (λ d m.
         let w : (Member d (due_times old) ⊎ IsNewTime lattice kcmp gives seal t (times_of run.steps ++ t ∷ []) d) × (d ≢ t) = due_cases (IsNewTime lattice kcmp gives seal t (times_of run.steps ++ t ∷ [])) t old fresh new made released fresh_times d m in
         not_true (leq d t) (λ k. elim w.0 [
-          | inl o ↦ w.1 (each_of (λ e. IsTrue (leq e t) → e ≡ t) (due_times old) d due o k)
+          | inl o ↦ w.1 (Every-member (λ e. IsTrue (leq e t) → e ≡ t) (due_times old) d due o k)
           | inr n ↦ w.1 (lattice.antisymmetric d t k n.2)
         ]))
 
     pub join_continued : NoneAbove leq t (times_of run.steps) → Every (λ d. IsTrue (leq d t) → d ≡ t) (due_times old) → StandsByProducts leq lub (joined_sides kcmp gives) seal new_left new_right new (continued run t fed made)
     join_continued above due =
-        let times : times_of (continued run t fed made).steps ≡ times_of run.steps ++ t ∷ [] = times_more leq t fed made run.steps in
+        let times : times_of (continued run t fed made).steps ≡ times_of run.steps ++ t ∷ [] = times_of-append run.steps (record { time = t; fed = fed; made = made } ∷ []) in
         record {
           base = h.base;
-          left_sums = λ u up. rw (fed_more leq t fed made run.steps u) (Alike-trans (linserted.sums u) (lefts_more kcmp gives (leq t u) (fed_to leq run.steps u) fed (accumulated leq u left) dl (h.left_sums u up) dl_is));
-          right_sums = λ u up. rw (fed_more leq t fed made run.steps u) (Alike-trans (rinserted.sums u) (rights_more kcmp gives (leq t u) (fed_to leq run.steps u) fed (accumulated leq u right) dr (h.right_sums u up) dr_is));
-          products = λ u up. rw (made_more leq t fed made run.steps u, fed_more leq t fed made run.steps u) (sums_to u up);
+          left_sums = λ u up. rw (fed_to_last leq run.steps (record { time = t; fed = fed; made = made }) u) (Alike-trans (linserted.sums u) (lefts_more kcmp gives (leq t u) (fed_to leq run.steps u) fed (accumulated leq u left) dl (h.left_sums u up) dl_is));
+          right_sums = λ u up. rw (fed_to_last leq run.steps (record { time = t; fed = fed; made = made }) u) (Alike-trans (rinserted.sums u) (rights_more kcmp gives (leq t u) (fed_to leq run.steps u) fed (accumulated leq u right) dr (h.right_sums u up) dr_is));
+          products = λ u up. rw (made_to_last leq run.steps (record { time = t; fed = fed; made = made }) u, fed_to_last leq run.steps (record { time = t; fed = fed; made = made }) u) (sums_to u up);
           left_times = rw times (inserted_times lcmp seal t (times_of run.steps) dl left new_left over linserted h.left_times);
           right_times = rw times (inserted_times rcmp seal t (times_of run.steps) dr right new_right over rinserted h.right_times);
           lubs = rw times lubs_now;

@@ -5,3 +5,4 @@ pub mod Outcomes
 pub mod LaterLaws
 pub mod Stepping
 pub mod Settling
+pub mod Rising

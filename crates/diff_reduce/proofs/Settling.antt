@@ -4,8 +4,7 @@ use Rattle.std.specs.Cmp.{IsTotalOrder}
 use Rattle.std.specs.Ordering.{is_gt, ordering_reverse}
 use Rattle.std.specs.declared.cmp.Ordering.TheVariants.{Less, Equal, Greater}
 use Rattle.flow_core.specs.Runs.{Every, Member, NoneAbove, NoneBelow}
-use Rattle.flow_core.specs.Lists.{Every-map}
-use Rattle.reduce_theory.specs.Members.{Every-member}
+use Rattle.flow_core.specs.Lists.{Every-map, Every-member}
 
 -- no time of the run is at or above it
 pub none_above_due : {T : Type 0} (leq : T → T → Bool) (t : T) (due times : List T) → Member t due → Every (λ s. NoneBelow leq s due) times → NoneAbove leq t times

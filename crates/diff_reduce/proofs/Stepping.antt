@@ -9,18 +9,18 @@ use Rattle.std.specs.Cmp.{Equal-is}
 use Rattle.std.specs.Ordering.{is_eq, is_ne}
 use Rattle.std.specs.declared.cmp.Ordering.TheVariants.{Less, Equal, Greater}
 use Rattle.std.proofs.lemmas.Map.Keys.{sorted_head, sorted_tail}
-use Rattle.weighted.specs.Alike.{Alike, Alike-is, Alike-refl, Alike-trans}
+use Rattle.weighted.specs.Alike.{Alike, Alike-is, Alike-refl}
 use Rattle.weighted.specs.WordLaws.{mapped}
 use Rattle.trace_store.specs.Traces.{at_time}
 use Rattle.flow_core.specs.Runs.{Every, Member}
-use Rattle.flow_core.specs.Lists.{Member-front, Member-back}
+use Rattle.flow_core.specs.Lists.{Member-front, Member-back, Every-of, Member-split}
 use Rattle.reduce_theory.specs.Evaluated.{key_part}
 use Rattle.reduce_theory.specs.ByKey.{over}
 use Rattle.reduce_theory.specs.Counts.{Apart}
-use Rattle.reduce_theory.specs.Members.{Every-of, Member-split, Member-map, Member-passes, Member-unfiltered, Member-filtered, Source, source}
+use Rattle.reduce_theory.specs.Members.{Member-map, Member-passes, Member-unfiltered, Member-filtered, Source, source}
 use Rattle.diff_reduce.specs.Stands.{Held, IsKept, due_times}
 use Rattle.diff_reduce.specs.Changes.{correction, Stepped}
-use Rattle.diff_reduce.specs.Later.{AreLater}
+use Rattle.diff_reduce.specs.Later.{AreLater, IsCovered}
 use Rattle.diff_reduce.proofs.Elements.{contains_member, member_contains}
 
 -- ---- keys that rise stand there once
@@ -87,19 +87,19 @@ module _ {K T : Type 0} (tcmp : T → T → Ordering) (tsame : (x y : T) → tcm
   stayed : (d : T) (k : K) (due : List (T × K)) → Member (d, k) (filter (λ p. is_ne (tcmp p.0 t)) due) → (d ≢ t) × Member (d, k) due
   stayed d k due m = ((λ e. not_equal (tcmp d t) (Member-passes (λ p. is_ne (tcmp p.0 t)) due (d, k) m) (subst (λ v. tcmp v t ≡ Equal) (sym e) (titself t))), Member-unfiltered (λ p. is_ne (tcmp p.0 t)) due (d, k) m)
 
-module _ {K V O T : Type 0} (leq : T → T → Bool) (lub : T → T → T) (tcmp : T → T → Ordering) (tsame : (x y : T) → tcmp x y ≡ Equal → x ≡ y) (titself : (x : T) → tcmp x x ≡ Equal) (kcmp : K → K → Ordering) (ksame : (x y : K) → kcmp x y ≡ Equal → x ≡ y) (kitself : (x : K) → kcmp x x ≡ Equal) (vcmp : V → V → Ordering) (ocmp : O → O → Ordering) (gives : K → List (V × ℕ) → List (O × ℕ)) (old new : Held K V O T) (t : T) (delta : List ((K × V) × ℕ)) (made entries : List ((K × O) × ℕ)) (ks : List K) (more : List (K × T)) (left later : List (T × K)) where
+module _ {K V O T : Type 0} (leq : T → T → Bool) (lub : T → T → T) (tcmp : T → T → Ordering) (tsame : (x y : T) → tcmp x y ≡ Equal → x ≡ y) (titself : (x : T) → tcmp x x ≡ Equal) (kcmp : K → K → Ordering) (ksame : (x y : K) → kcmp x y ≡ Equal → x ≡ y) (kitself : (x : K) → kcmp x x ≡ Equal) (vcmp : V → V → Ordering) (ocmp : O → O → Ordering) (gives : K → List (V × ℕ) → List (O × ℕ)) (old new : Held K V O T) (t : T) (delta : List ((K × V) × ℕ)) (made : List ((K × O) × ℕ)) (ks : List K) (more : List (K × T)) (left later : List (T × K)) where
   abbrev named : List K
   named = map (λ e. e.0.0) delta ++ map (λ d. d.1) (filter (λ d. is_eq (tcmp d.0 t)) old.due)
 
   called_key : ((k : K) → Contains named k → Contains ks k) → (k : K) → Member k named → Member k ks
   called_key each k m = contains_member ks k (each k (member_contains named k m))
 
-  pub stepped : new.seal ≡ old.seal → Alike new.input (old.input ++ mapped (at_time t) delta) → Alike new.output (old.output ++ mapped (at_time t) made) → Alike made entries → entries ≡ over (correction leq kcmp vcmp ocmp gives t new.input old.output) ks → new.charge ≡ old.charge + length ks → IsStrictlySortedBy kcmp ks → ((k : K) → Contains named k → Contains ks k) → ((k : K) → Contains ks k → Contains named k) → more ≡ map (λ k. (k, t)) ks → ((p : K × T) → Contains old.points p → Contains new.points p) → ((p : K × T) → Contains more p → Contains new.points p) → ((p : K × T) → Contains new.points p → Contains old.points p ⊎ Contains more p) → left ≡ filter (λ p. is_ne (tcmp p.0 t)) old.due → AreLater lub (IsKept tcmp kcmp vcmp new.input old.points) t ks later → ((p : T × K) → Contains left p → Contains new.due p) → ((p : T × K) → Contains later p → Contains new.due p) → ((p : T × K) → Contains new.due p → Contains left p ⊎ Contains later p) → Stepped leq lub tcmp kcmp vcmp ocmp gives old new t delta made ks
-  stepped seal input output is entries_are charge rising each only more_is points_old points_more points_only left_is are due_old due_more due_only = record {
+  pub stepped : new.seal ≡ old.seal → Alike new.input (old.input ++ mapped (at_time t) delta) → Alike new.output (old.output ++ mapped (at_time t) made) → Alike made (over (correction leq kcmp vcmp ocmp gives t new.input old.output) ks) → new.charge ≡ old.charge + length ks → IsStrictlySortedBy kcmp ks → ((k : K) → Contains named k → Contains ks k) → ((k : K) → Contains ks k → Contains named k) → more ≡ map (λ k. (k, t)) ks → ((p : K × T) → Contains old.points p → Contains new.points p) → ((p : K × T) → Contains more p → Contains new.points p) → ((p : K × T) → Contains new.points p → Contains old.points p ⊎ Contains more p) → left ≡ filter (λ p. is_ne (tcmp p.0 t)) old.due → AreLater leq lub (IsKept tcmp kcmp vcmp new.input old.points) old.points t ks later → ((p : T × K) → Contains left p → Contains new.due p) → ((p : T × K) → Contains later p → Contains new.due p) → ((p : T × K) → Contains new.due p → Contains left p ⊎ Contains later p) → Stepped leq lub tcmp kcmp vcmp ocmp gives old new t delta made ks
+  stepped seal input output corrected charge rising each only more_is points_old points_more points_only left_is are due_old due_more due_only = record {
     seal = seal;
     input = input;
     output = output;
-    corrected = Alike-trans is (Alike-is entries_are);
+    corrected = corrected;
     charge = charge;
     apart = rising_apart kcmp kitself ks rising;
     fed = λ k h. called_key each k (Member-front k (map (λ e. e.0.0) delta) (map (λ d. d.1) (filter (λ d. is_eq (tcmp d.0 t)) old.due)) (fed_key kcmp ksame kitself k delta h));
@@ -109,12 +109,17 @@ module _ {K V O T : Type 0} (leq : T → T → Bool) (lub : T → T → T) (tcmp
     points_new = λ k m. contains_member new.points (k, t) (points_more (k, t) (member_contains more (k, t) (subst (λ v. Member (k, t) v) (sym more_is) (Member-map {B = K × T} (λ k. (k, t)) k ks m))));
     points_only = λ k a m. elim (points_only (k, a) (member_contains new.points (k, a) m)) [ inl o ↦ inl (contains_member old.points (k, a) o) | inr n ↦ inr (from_more k a (subst (λ v. Member (k, a) v) more_is (contains_member more (k, a) n))) ];
     due_kept = λ d k m. elim (stays tcmp tsame titself t d k old.due m) [ inl e ↦ inl e | inr l ↦ inr (contains_member new.due (d, k) (due_old (d, k) (member_contains left (d, k) (subst (λ v. Member (d, k) v) (sym left_is) l)))) ];
-    due_new = λ k x m kept. elim (are.each k x m kept) [ inl e ↦ inl e | inr l ↦ inr (contains_member new.due (lub t x, k) (due_more (lub t x, k) (member_contains later (lub t x, k) l))) ];
+    due_new = λ k x m kept. in_new k x (are.each k x m kept);
     due_only = λ d k m. elim (due_only (d, k) (member_contains new.due (d, k) m)) [
       | inl o ↦ (let w = stayed tcmp tsame titself t d k old.due (subst (λ v. Member (d, k) v) left_is (contains_member left (d, k) o)) in (w.0, inl w.1))
       | inr n ↦ (let w = are.only d k (contains_member later (d, k) n) in (w.0, inr w.1))
     ];
   } where
+    in_new : (k : K) (x : T) → (lub t x ≡ t) ⊎ (Member (lub t x, k) later ⊎ IsCovered leq lub old.points t k x) → (lub t x ≡ t) ⊎ (Member (lub t x, k) new.due ⊎ IsCovered leq lub old.points t k x)
+    in_new k x (inl e) = inl e
+    in_new k x (inr (inl l)) = inr (inl (contains_member new.due (lub t x, k) (due_more (lub t x, k) (member_contains later (lub t x, k) l))))
+    in_new k x (inr (inr w)) = inr (inr w)
+
     from_more : (k : K) (a : T) → Member {A = K × T} (k, a) (map (λ k. (k, t)) ks) → Member k ks × (a ≡ t)
     from_more k a m =
         let at : K → K × T = λ k. (k, t) in

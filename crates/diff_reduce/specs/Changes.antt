@@ -9,6 +9,7 @@ use Rattle.flow_core.specs.Runs.{Member}
 use Rattle.reduce_theory.specs.Evaluated.{key_part}
 use Rattle.reduce_theory.specs.ByKey.{over}
 use Rattle.reduce_theory.specs.Counts.{Apart}
+use Rattle.diff_reduce.specs.Later.{IsCovered}
 use Rattle.diff_reduce.specs.Stands.{Held, IsKept}
 
 -- what an evaluation makes of a key at t: what the logic gives for the key's values, less what was made of it before
@@ -31,9 +32,9 @@ pub record Stepped {K V O T : Type 0} (leq : T → T → Bool) (lub : T → T �
   pub points_kept : (k : K) (a : T) → Member (k, a) old.points → Member (k, a) new.points
   pub points_new : (k : K) → Member k ks → Member (k, t) new.points
   pub points_only : (k : K) (a : T) → Member (k, a) new.points → Member (k, a) old.points ⊎ (Member k ks × (a ≡ t))
-  -- due are then its least upper bounds with the marks of the key
+  -- due are then its least upper bounds with the marks of the key, but those that an earlier evaluation named
   pub due_kept : (d : T) (k : K) → Member (d, k) old.due → (d ≡ t) ⊎ Member (d, k) new.due
-  pub due_new : (k : K) (x : T) → Member k ks → IsKept tcmp kcmp vcmp new.input old.points k x → (lub t x ≡ t) ⊎ Member (lub t x, k) new.due
+  pub due_new : (k : K) (x : T) → Member k ks → IsKept tcmp kcmp vcmp new.input old.points k x → (lub t x ≡ t) ⊎ (Member (lub t x, k) new.due ⊎ IsCovered leq lub old.points t k x)
   pub due_only : (d : T) (k : K) → Member (d, k) new.due → (d ≢ t) × (Member (d, k) old.due ⊎ (Member k ks × ((x : T) × IsKept tcmp kcmp vcmp new.input old.points k x × (d ≡ lub t x))))
 
 -- a seal at f, where nothing is due

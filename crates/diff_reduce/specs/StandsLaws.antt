@@ -9,12 +9,13 @@ use Rattle.lattice_time.specs.Lattice.{IsLattice}
 use Rattle.weighted.specs.Alike.{Alike, Alike-is, Alike-trans}
 use Rattle.weighted.specs.Normal.{normal-same}
 use Rattle.flow_core.specs.Runs.{Step, Run, Every, Member, NoneBelow, fed_to, made_to, times_of, IsLubOf, Answers}
+use Rattle.flow_core.specs.Lists.{Every-member, Every-of}
+use Rattle.flow_core.specs.RunLaws.{time_before, time_after}
 use Rattle.reduce_theory.specs.Evaluated.{key_part, key_steps, new_marks}
 use Rattle.reduce_theory.specs.Keys.{IsPoint}
-use Rattle.reduce_theory.specs.Members.{Every-member, Every-of, Source, source, Member-unfiltered, Member-filtered, Member-passes}
+use Rattle.reduce_theory.specs.Members.{Source, source, Member-unfiltered, Member-filtered, Member-passes}
 use Rattle.reduce_theory.specs.MarkLaws.{new_mark_time, mark_either}
 use Rattle.reduce_theory.specs.KeyLaws.{key_closed}
-use Rattle.reduce_theory.specs.KeySteps.{time_before, time_after}
 use Rattle.reduce_theory.specs.ByKey.{reduce_apply, reduce_part, by_keys, key_steps-append, times_of-key, fed_to-key, made_to-key}
 use Rattle.diff_reduce.specs.Stands.{Held, IsKept, logic_of, due_times, old_steps, new_steps, Stands}
 

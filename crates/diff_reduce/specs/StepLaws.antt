@@ -14,18 +14,20 @@ use Rattle.weighted.specs.WordLaws.{total, mapped}
 use Rattle.trace_store.specs.Traces.{at_time, in_turn, later, values_of}
 use Rattle.trace_store.specs.Traces.{accumulated as held_at}
 use Rattle.flow_core.specs.Runs.{Step, Run, Every, Member, NoneAbove, NoneBelow, fed_to, made_to, fed_of, made_of, times_of, continued, sealed}
-use Rattle.flow_core.specs.Lists.{Every-append, Every-append_back, Every-map}
+use Rattle.flow_core.specs.Lists.{Every-append, Every-append_back, Every-map, Every-member, Every-of}
+use Rattle.flow_core.specs.RunLaws.{made_to-append, times_of-append, fed_of-append, made_of-append}
 use Rattle.reduce_theory.specs.Evaluated.{key_part, key_steps, has_key, new_marks, some_below, lub_below, old_marks, is_evaluated, charged, evaluations}
 use Rattle.reduce_theory.specs.Keys.{IsPoint, KeyRun}
-use Rattle.reduce_theory.specs.Members.{Every-member, Every-of, Member-map, Source, source}
+use Rattle.reduce_theory.specs.Members.{Member-map, Source, source}
 use Rattle.reduce_theory.specs.MarkLaws.{old_mark_is, old_mark_in, empty_or, new_marks-append, lub-evaluated}
-use Rattle.reduce_theory.specs.KeyLaws.{true_or_false, made_to-append, lub_above, key_idle}
-use Rattle.reduce_theory.specs.KeySteps.{times_of-append, key_untouched, key_evaluated, key_sealed, key_fresh}
+use Rattle.reduce_theory.specs.KeyLaws.{true_or_false, lub_above, key_idle}
+use Rattle.reduce_theory.specs.KeySteps.{key_untouched, key_evaluated, key_sealed, key_fresh}
 use Rattle.reduce_theory.specs.ByKey.{over, absent, present, at_each_key, part-append, key_steps-append, times_of-key, fed_to-key, made_to-key}
 use Rattle.reduce_theory.specs.Counts.{apart_distinct, member_has, has_member, evaluations-are, charged-last}
 use Rattle.diff_reduce.specs.Stands.{Held, IsKept, logic_of, due_times, old_steps, new_steps, timed, Stands}
 use Rattle.diff_reduce.specs.Changes.{correction, Stepped, Sealed}
-use Rattle.diff_reduce.specs.TimedLaws.{fed_of-append, made_of-append, values-are, timed_last, held_is, sealed_is, IsTimeOf-alike, time_is_mark, mark_is_time, time_stays, time_was}
+use Rattle.diff_reduce.specs.Later.{IsCovered}
+use Rattle.diff_reduce.specs.TimedLaws.{values-are, timed_last, held_is, sealed_is, IsTimeOf-alike, time_is_mark, mark_is_time, time_stays, time_was}
 use Rattle.diff_reduce.specs.StandsLaws.{logic-respects, key_parts, key_above}
 
 -- what was made, and then what should have been made less what was made, is what should have been made
@@ -130,9 +132,29 @@ module _ {K V O T : Type 0} (leq : T → T → Bool) (lub : T → T → T) (latt
         (λ d w. c.due_kept d k w)
         (later_due k m)
         (due_out k) where
+          at_now : (x : T) → x ≡ t → lub t x ≡ t
+          at_now x e = ap (λ v. lub t v) e ∙ lub_above leq lub lattice t t (lattice.reflexive t)
+
+          -- a bound that was due since an earlier evaluation is the bound of this one
+          still_due : (k : K) (x a : T) → IsTrue (leq a t) → IsTrue (leq t (lub a x)) → Member (lub a x, k) held.due ⊎ Member (k, lub a x) held.points → (lub t x ≡ t) ⊎ Member (lub t x, k) new.due
+          still_due k x a low up (inl d) =
+              let same : lub a x ≡ lub t x = lattice.antisymmetric (lub a x) (lub t x)
+              (lattice.least a x (lub t x) (lattice.transitive a t (lub t x) low (lattice.left t x)) (lattice.right t x))
+              (lattice.least t x (lub a x) up (lattice.right a x)) in
+              elim (c.due_kept (lub a x) k d) [ inl e ↦ inl (sym same ∙ e) | inr n ↦ inr (subst (λ v. Member (v, k) new.due) same n) ]
+          still_due k x a low up (inr p) = absurd (absurd_bool (leq t (lub a x)) (Every-member (λ s. leq t s ≡ false) (times_of (news k)) (lub a x) (key_later k) ((h.keys k).stepped (lub a x) p)) up)
+
+          named : (k : K) → Member k ks → (x : T) → IsKept tcmp kcmp vcmp new.input new.points k x → (lub t x ≡ t) ⊎ (Member (lub t x, k) new.due ⊎ IsCovered leq lub held.points t k x) → (lub t x ≡ t) ⊎ Member (lub t x, k) new.due
+          named k m x kept (inl e) = inl e
+          named k m x kept (inr (inl d)) = inr d
+          named k m x kept (inr (inr w)) = elim (mark_out k x kept) [
+            | inl old ↦ still_due k x w.0 w.2 w.3 ((h.keys k).closed w.0 x w.1 old)
+            | inr e ↦ inl (at_now x e.0)
+          ]
+
           later_due : (k : K) → Member k ks → (x : T) → IsKept tcmp kcmp vcmp new.input new.points k x → (lub t x ≡ t) ⊎ Member (lub t x, k) new.due
-          later_due k m x (inl w) = c.due_new k x m (inl w)
-          later_due k m x (inr p) = elim (c.points_only k x p) [ inl q ↦ c.due_new k x m (inr q) | inr w ↦ inl (ap (λ v. lub t v) w.1 ∙ lub_above leq lub lattice t t (lattice.reflexive t)) ]
+          later_due k m x (inl w) = named k m x (inl w) (c.due_new k x m (inl w))
+          later_due k m x (inr p) = elim (c.points_only k x p) [ inl q ↦ named k m x (inr p) (c.due_new k x m (inr q)) | inr w ↦ inl (at_now x w.1) ]
 
           kept_more : (k : K) (x : T) → IsKept tcmp kcmp vcmp new.input held.points k x → IsKept tcmp kcmp vcmp new.input new.points k x
           kept_more k x (inl w) = inl w

@@ -19,14 +19,6 @@ use Rattle.reduce_theory.specs.KeyLaws.{read_leq}
 use Rattle.reduce_theory.specs.MarkLaws.{IsOldMark, empty_or}
 use Rattle.diff_reduce.specs.Stands.{timed}
 
-pub fed_of-append : {T I O : Type 0} (xs ys : List (Step T I O)) → fed_of (xs ++ ys) ≡ fed_of xs ++ fed_of ys
-fed_of-append [] ys = refl
-fed_of-append (s ∷ xs) ys = ap (λ v. (s.time, s.fed) ∷ v) (fed_of-append xs ys)
-
-pub made_of-append : {T I O : Type 0} (xs ys : List (Step T I O)) → made_of (xs ++ ys) ≡ made_of xs ++ made_of ys
-made_of-append [] ys = refl
-made_of-append (s ∷ xs) ys = ap (λ v. (s.time, s.made) ∷ v) (made_of-append xs ys)
-
 -- the values of a key, in both spellings
 values_by : {K V : Type 0} (kcmp : K → K → Ordering) (k : K) (e : (K × V) × ℕ) (es : List ((K × V) × ℕ)) (b : Bool) → values_of kcmp k es ≡ key_part kcmp k es → mapped (λ (r : K × V). r.1) (if b then e ∷ filtered (λ (r : K × V). is_eq (kcmp r.0 k)) es else filtered (λ (r : K × V). is_eq (kcmp r.0 k)) es) ≡ (if b then (e.0.1, e.1) ∷ key_part kcmp k es else key_part kcmp k es)
 values_by kcmp k e es true h = ap (λ v. (e.0.1, e.1) ∷ v) h

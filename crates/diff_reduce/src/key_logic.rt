@@ -1,6 +1,7 @@
 //! What a reduce makes of a key.
 
 ghost use Rattle.std.specs.Prelude.{◌≡◌, ℕ, ◌+◌, ◌≤◌, List, [], OnOk};
+ghost use Rattle.weighted.specs.Batches.{IsBatch};
 
 use surge_outside::{Counted, List, NoMemory, Record};
 use weighted::Weight;
@@ -22,7 +23,7 @@ pub trait KeyLogic<U: Counted> {
     /// Writes into `into` what is made of a key whose values, rising, have these weights, none of them zero. It may write in
     /// any order, and a record any number of times. It calls the updater once at most.
     ///
-    /// The caller owes that `into` is empty. Errors: out of memory; `into` is then any list.
+    /// The caller owes that the values strictly rise with no weight zero, and that `into` is empty. Errors: out of memory; `into` is then any list.
     fn eval(
         &self,
         key: Self::Key,
@@ -30,7 +31,8 @@ pub trait KeyLogic<U: Counted> {
         into: &mut List<(Self::Output, Weight)>,
         updater: &mut U,
     ) -> Result<(), NoMemory>
-        requires { into.old ≡ [] }
+        requires words { IsBatch Self.Value.cmp words.now }
+        requires into { into.old ≡ [] }
         ensures answer { OnOk result (into.new ≡ gives self.now key words.now) }
         ensures calls { U.calls updater.old ≤ U.calls updater.new }
         ensures cost { U.calls updater.new ≤ U.calls updater.old + 1 };

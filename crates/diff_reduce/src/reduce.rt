@@ -4,7 +4,7 @@ ghost use Rattle.std.specs.Prelude.{◌≡◌, ◌+◌, ◌≤◌, ◌%◌, ◌^
 ghost use Rattle.std.specs.Cmp.{tied_itself};
 ghost use Rattle.weighted.specs.Batches.{IsBatch};
 ghost use Rattle.trace_store.specs.Traces.{in_turn};
-ghost use Rattle.flow_core.specs.Runs.{IsFresh, Run};
+ghost use Rattle.flow_core.specs.Runs.{IsFresh, Run, Every};
 ghost use Rattle.reduce_theory.specs.Evaluated.{charged};
 ghost use Rattle.reduce_theory.specs.ByKey.{reduce_apply, reduce_respects};
 ghost use Rattle.diff_reduce.specs.Stands.{Stands, due_times, old_steps, new_steps};
@@ -73,11 +73,13 @@ impl<G: KeyLogic<U>, T: Time, U: Counted> Reduce<G, T, U> {
         }
     }
 
-    /// How many times the logic was called so far, modulo 2^64. Of each run for which the reduce stands it is the charge at
-    /// the seal and the number of keys that are evaluated at each step since. It takes no memory.
+    /// How many times the logic was called so far, modulo 2^64: the low bits of the charge. Of each run for which the reduce
+    /// stands the charge is that at the seal and the number of keys that are evaluated at each step since, and each step was
+    /// fed a batch in normal form. It takes no memory.
     pub fn evaluations(&self) -> u64
         ensures charge { result ≡ ⟦<Reduce<G, T, U> as Operator<T, U>>⟧.charge self.now % 2 ^ 64 }
-        ensures counted { let it = ⟦<Reduce<G, T, U> as Operator<T, U>>⟧ in (run : Run T (G.Key × G.Value) (G.Key × G.Output)) → it.stands self.now run → result ≡ (run.base + charged T.leq T.lub T.cmp G.Key.cmp G.Value.cmp (it.seal self.now) (old_steps run) [] (new_steps run)) % 2 ^ 64 }
+        ensures counted { let it = ⟦<Reduce<G, T, U> as Operator<T, U>>⟧ in (run : Run T (G.Key × G.Value) (G.Key × G.Output)) → it.stands self.now run → it.charge self.now ≡ run.base + charged T.leq T.lub T.cmp G.Key.cmp G.Value.cmp (it.seal self.now) (old_steps run) [] (new_steps run) }
+        ensures fed { let it = ⟦<Reduce<G, T, U> as Operator<T, U>>⟧ in (run : Run T (G.Key × G.Value) (G.Key × G.Output)) → it.stands self.now run → Every (λ s. IsBatch (in_turn G.Key.cmp G.Value.cmp) s.fed) run.steps }
     {
         self.count.low()
     }
@@ -112,7 +114,7 @@ impl<G: KeyLogic<U>, T: Time, U: Counted> Reduce<G, T, U> {
             &mut self.count,
             updater,
         )?;
-        let made = Batch::from_entries(List::from_vec(entries))?;
+        let made = Batch::from_rising(List::from_vec(entries));
         self.output.insert(&made, t)?;
         let points = at_time(self.alloc, keys.as_slice(), t)?;
         self.points.add(points.as_slice())?;

@@ -1,8 +1,12 @@
 pub mod Runs
 pub mod Lists
+pub mod RunLaws
+pub mod Closing
 pub mod Sides
 pub mod Linear
 pub mod Functions
+pub mod Expanded
+pub mod Quietly
 pub mod Parts
 pub mod PartLaws
 pub mod ChainLaws

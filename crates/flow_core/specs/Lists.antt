@@ -1,6 +1,6 @@
 -- Laws of lists of times.
 use Rattle.std.specs.Prelude.{◌≡◌, ◌⊎◌, Bool, IsTrue, List, [], ◌∷◌, ◌++◌, refl}
-use Rattle.std.proofs.Common.{inl, inr}
+use Rattle.std.proofs.Common.{sym, subst, inl, inr}
 use Rattle.flow_core.specs.Runs.{Every, Member}
 
 pub Every-append : {A : Type 0} (P : A → Type 0) (xs ys : List A) → Every P xs → Every P ys → Every P (xs ++ ys)
@@ -35,6 +35,21 @@ Member-front x (y ∷ xs) ys (inr h) = inr (Member-front x xs ys h)
 pub Member-back : {A : Type 0} (x : A) (xs ys : List A) → Member x ys → Member x (xs ++ ys)
 Member-back x [] ys h = h
 Member-back x (y ∷ xs) ys h = inr (Member-back x xs ys h)
+
+pub Member-split : {A : Type 0} (x : A) (xs ys : List A) → Member x (xs ++ ys) → Member x xs ⊎ Member x ys
+Member-split x [] ys m = inr m
+Member-split x (y ∷ xs) ys (inl e) = inl (inl e)
+Member-split x (y ∷ xs) ys (inr m) = elim (Member-split x xs ys m) [ inl a ↦ inl (inr a) | inr b ↦ inr b ]
+
+-- what holds of each holds of a member, and the other way round
+pub Every-member : {A : Type 0} (P : A → Type 0) (xs : List A) (x : A) → Every P xs → Member x xs → P x
+Every-member P [] x h m = absurd m
+Every-member P (y ∷ ys) x h (inl e) = subst P (sym e) h.0
+Every-member P (y ∷ ys) x h (inr m) = Every-member P ys x h.1 m
+
+pub Every-of : {A : Type 0} (P : A → Type 0) (xs : List A) → ((x : A) → Member x xs → P x) → Every P xs
+Every-of P [] f = tt
+Every-of P (x ∷ xs) f = (f x (inl refl), Every-of P xs (λ y m. f y (inr m)))
 
 pub front_empty : {A : Type 0} (xs ys : List A) → xs ++ ys ≡ [] → xs ≡ []
 front_empty [] ys h = refl

@@ -1,11 +1,14 @@
 //! Worked examples, through functions that know of an operator only that it is one.
 
-ghost use Rattle.std.specs.Prelude.{◌≡◌, ℕ, ◌+◌, ◌%◌, ◌^◌, ◌==◌, ◌++◌, false, IsTrue, IfOk};
+ghost use Rattle.std.specs.Prelude.{◌≡◌, ℕ, ◌+◌, ◌%◌, ◌^◌, ◌==◌, ◌∷◌, [], ◌++◌, false, IsTrue, IfOk, OnOk};
 ghost use Rattle.std.specs.Option.{IfSome};
 ghost use Rattle.weighted.specs.Alike.{Alike};
 ghost use Rattle.flow_core.specs.Runs.{Run, Answers, IsFresh};
 
-use crate::{Chain, Concat, Each, Filter, Fork, Keep, Map, Operator, Side, lawful};
+use crate::{
+    Chain, Concat, Each, Expand, Filter, FlatMap, Fork, Keep, Map, NoCalls, Operator, Quiet, Side,
+    lawful, settled, settled_below,
+};
 use lattice_time::{Pair, Position, Round, Time};
 use std::alloc::Global;
 use std::test::Fail;
@@ -36,12 +39,17 @@ impl Keep<u32> for Even {
     }
 }
 
-/// An updater that is never called.
+/// Both ends of an edge.
 #[derive(Drop)]
-struct NoCalls;
+struct Ends;
 
-impl Counted for NoCalls {
-    ghost calls = { λ _. 0 };
+impl Expand<(u32, u32), u32> for Ends {
+    ghost gives = { λ _ edge. edge.0 ∷ edge.1 ∷ [] };
+
+    fn expand(&self, edge: (u32, u32), into: &mut List<u32>) -> Result<(), NoMemory> {
+        into.push(edge.0)?;
+        into.push(edge.1)
+    }
 }
 
 /// A time of a loop, in its outer dataflow.
@@ -94,6 +102,24 @@ fn in_turn<T: Time, U: Counted, O: Operator<T, U>>(
     operator.seal(second)?;
     let late = operator.step(second, more, updater)?;
     Ok(Some((early, late)))
+}
+
+/// A step of a new operator and a seal at its time, at which nothing can be due.
+fn step_and_seal<T: Time, U: Counted, O: Operator<T, U>>(
+    operator: &mut O,
+    t: T,
+    delta: &Batch<O::Input>,
+    updater: &mut U,
+) -> Result<Batch<O::Output>, NoMemory>
+    requires { IsFresh O.stands O.due O.seal O.spent T.least operator.old }
+    ensures { OnOk result (O.seal operator.new ≡ t) }
+{
+    t.proper();
+    let made = operator.step(t, delta, updater)?;
+    settled_below(operator, t);
+    settled(operator);
+    operator.seal(t)?;
+    Ok(made)
 }
 
 /// Whether it may be stepped, and nothing is due.
@@ -162,6 +188,20 @@ fn rejoined<T: Time, U: Counted>(
     first_step(Chain::new(fork, concat), t, delta, updater)
 }
 
+/// The ends of edges, by an operator that calls no updater of its caller's: how many edges each vertex has.
+fn degrees<T: Time, U: Counted>(
+    alloc: Global,
+    t: T,
+    delta: &Batch<(u32, u32)>,
+    updater: &mut U,
+) -> Result<Batch<u32>, NoMemory> {
+    let ends: FlatMap<Ends, (u32, u32), u32, T, NoCalls> = FlatMap::new(alloc, Ends);
+    let mut quiet = Quiet::new::<T, U>(ends);
+    step_and_seal::<T, U, Quiet<FlatMap<Ends, (u32, u32), u32, T, NoCalls>>>(
+        &mut quiet, t, delta, updater,
+    )
+}
+
 /// The batch of records, each of weight 1.
 fn batch<R: Record>(alloc: Global, records: &[R]) -> Result<Batch<R>, NoMemory> {
     let mut entries = Vec::new(alloc);
@@ -222,6 +262,16 @@ fn fork_joined_again(rt: HostRuntime) -> Result<(), Fail> {
         made.as_slice(),
         [(4, Weight(2)), (5, Weight(1))].as_slice()
     );
+    Ok(())
+}
+
+#[test]
+fn flat_map_that_is_quiet(rt: HostRuntime) -> Result<(), Fail> {
+    let alloc = rt.alloc();
+    let delta = batch(alloc, &[(1, 2), (2, 3), (3, 3)])?;
+    let made = degrees(alloc, at(1, 2), &delta, &mut NoCalls)?;
+    let ends = [(1, Weight(1)), (2, Weight(2)), (3, Weight(3))];
+    assert_eq!(rt; made.as_slice(), ends.as_slice());
     Ok(())
 }
 

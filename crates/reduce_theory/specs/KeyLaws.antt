@@ -8,10 +8,10 @@ use Rattle.weighted.specs.Words.{sum_at, word}
 use Rattle.weighted.specs.WordLaws.{total, total-agree, sum_at-append}
 use Rattle.weighted.specs.Alike.{Alike, Alike-is, Alike-refl, Alike-sym, Alike-trans, Alike-append, Alike-words}
 use Rattle.flow_core.specs.Runs.{Step, Every, Member, NoneAbove, fed_to, made_to, times_of}
-use Rattle.flow_core.specs.Lists.{Every-map}
+use Rattle.flow_core.specs.Lists.{Every-map, Every-member}
+use Rattle.flow_core.specs.RunLaws.{fed_to-append, made_to-append}
 use Rattle.reduce_theory.specs.Evaluated.{read_at, old_marks, new_marks, marks, is_evaluated}
 use Rattle.reduce_theory.specs.Keys.{IsPoint, KeyRun}
-use Rattle.reduce_theory.specs.Members.{Every-member}
 use Rattle.reduce_theory.specs.MarkLaws.{old_mark_in, mark_old, mark_new, new_mark_in, new_mark_has, empty_or, evaluated-lub}
 
 zero_or : (n : ℕ) → (n ≡ 0) ⊎ (n ≢ 0)
@@ -37,30 +37,6 @@ module _ {T : Type 0} (leq : T → T → Bool) (lub : T → T → T) (lattice : 
 
   pub lub_above : (s t : T) → IsTrue (leq s t) → lub t s ≡ t
   lub_above s t h = lattice.antisymmetric (lub t s) t (lattice.least t s t (lattice.reflexive t) h) (lattice.left t s)
-
--- ---- what was fed and made, in two parts
-
-module _ {T V O : Type 0} (leq : T → T → Bool) where
-  pub fed_to-append : (xs ys : List (Step T V O)) (t : T) → fed_to leq (xs ++ ys) t ≡ fed_to leq xs t ++ fed_to leq ys t
-  fed_to-append [] ys t = refl
-  fed_to-append (s ∷ ss) ys t = ap (λ v. (if leq s.time t then s.fed else []) ++ v) (fed_to-append ss ys t) ∙ sym (append_assoc (if leq s.time t then s.fed else []) (fed_to leq ss t) (fed_to leq ys t))
-
-  pub made_to-append : (xs ys : List (Step T V O)) (t : T) → made_to leq (xs ++ ys) t ≡ made_to leq xs t ++ made_to leq ys t
-  made_to-append [] ys t = refl
-  made_to-append (s ∷ ss) ys t = ap (λ v. (if leq s.time t then s.made else []) ++ v) (made_to-append ss ys t) ∙ sym (append_assoc (if leq s.time t then s.made else []) (made_to leq ss t) (made_to leq ys t))
-
-  -- a step that is not at or below t adds nothing
-  fed_last : (s : Step T V O) (t : T) → leq s.time t ≡ false → fed_to leq (s ∷ []) t ≡ []
-  fed_last s t h = rw h refl
-
-  made_last : (s : Step T V O) (t : T) → leq s.time t ≡ false → made_to leq (s ∷ []) t ≡ []
-  made_last s t h = rw h refl
-
-  pub fed_to_more : (xs : List (Step T V O)) (s : Step T V O) (t : T) → leq s.time t ≡ false → fed_to leq (xs ++ s ∷ []) t ≡ fed_to leq xs t
-  fed_to_more xs s t h = fed_to-append xs (s ∷ []) t ∙ ap (λ v. fed_to leq xs t ++ v) (fed_last s t h) ∙ append-nil (fed_to leq xs t)
-
-  pub made_to_more : (xs : List (Step T V O)) (s : Step T V O) (t : T) → leq s.time t ≡ false → made_to leq (xs ++ s ∷ []) t ≡ made_to leq xs t
-  made_to_more xs s t h = made_to-append xs (s ∷ []) t ∙ ap (λ v. made_to leq xs t ++ v) (made_last s t h) ∙ append-nil (made_to leq xs t)
 
 fed_old_total_by : {V : Type 0} (b : Bool) (w n : ℕ) (vcmp : V → V → Ordering) (v : V) (fed more : List (V × ℕ)) → w ≡ sum_at vcmp fed v → n ≡ sum_at vcmp more v → sum_at vcmp ((if b then fed else []) ++ more) v ≡ (if b then 1 else 0) * w + n
 fed_old_total_by true w n vcmp v fed more p q = sum_at-append vcmp fed more v ∙ omega (arith, p, q)

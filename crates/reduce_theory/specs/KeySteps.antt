@@ -6,22 +6,12 @@ use Rattle.std.proofs.Common.{ap, sym, subst, inl, inr, append_assoc}
 use Rattle.lattice_time.specs.Lattice.{IsLattice}
 use Rattle.weighted.specs.Alike.{Alike, Alike-is}
 use Rattle.flow_core.specs.Runs.{Step, Every, Member, NoneAbove, fed_to, made_to, times_of}
-use Rattle.flow_core.specs.Lists.{Every-append, Every-map, Member-front, Member-back}
+use Rattle.flow_core.specs.Lists.{Every-append, Every-map, Member-front, Member-back, Every-member}
+use Rattle.flow_core.specs.RunLaws.{fed_to_more, made_to_more, time_before, time_after}
 use Rattle.reduce_theory.specs.Evaluated.{old_marks, new_marks, marks}
 use Rattle.reduce_theory.specs.Keys.{IsPoint, KeyRun}
-use Rattle.reduce_theory.specs.Members.{Every-member}
 use Rattle.reduce_theory.specs.MarkLaws.{new_mark_in, mark_old, mark_new, mark_either, mark_more, mark_last, point_more}
-use Rattle.reduce_theory.specs.KeyLaws.{fed_to_more, made_to_more, lub_comm, key_closed}
-
-pub times_of-append : {T I O : Type 0} (xs ys : List (Step T I O)) → times_of (xs ++ ys) ≡ times_of xs ++ times_of ys
-times_of-append [] ys = refl
-times_of-append (s ∷ ss) ys = ap (λ v. s.time ∷ v) (times_of-append ss ys)
-
-pub time_before : {T I O : Type 0} (xs ys : List (Step T I O)) (t : T) → Member t (times_of xs) → Member t (times_of (xs ++ ys))
-time_before xs ys t m = subst (λ v. Member t v) (sym (times_of-append xs ys)) (Member-front t (times_of xs) (times_of ys) m)
-
-pub time_after : {T I O : Type 0} (xs ys : List (Step T I O)) (t : T) → Member t (times_of ys) → Member t (times_of (xs ++ ys))
-time_after xs ys t m = subst (λ v. Member t v) (sym (times_of-append xs ys)) (Member-back t (times_of xs) (times_of ys) m)
+use Rattle.reduce_theory.specs.KeyLaws.{lub_comm, key_closed}
 
 module _ {T V O : Type 0} (leq : T → T → Bool) (lub : T → T → T) (lattice : IsLattice leq lub) (tcmp : T → T → Ordering) (vcmp : V → V → Ordering) (logic : List (V × ℕ) → List (O × ℕ)) (seal : T) where
   module _ (Mark Point Due Mark' Point' Due' : T → Type 0) (old new : List (Step T V O)) (key : KeyRun leq lub tcmp vcmp logic seal Mark Point Due old new) (s : Step T V O) (later : NoneAbove leq s.time (times_of new)) where

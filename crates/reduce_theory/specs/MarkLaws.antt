@@ -11,10 +11,10 @@ use Rattle.lattice_time.specs.Lattice.{IsLattice}
 use Rattle.lattice_time.specs.LatticeLaws.{and_first, and_second, and_both}
 use Rattle.weighted.specs.Words.{sum_at, word}
 use Rattle.flow_core.specs.Runs.{Step, Every, Member, times_of}
-use Rattle.flow_core.specs.Lists.{Member-front, Member-back}
+use Rattle.flow_core.specs.Lists.{Member-front, Member-back, Member-split}
 use Rattle.reduce_theory.specs.Evaluated.{read_at, values_fed, old_marks, new_marks, marks, some_below, lub_below, is_evaluated}
 use Rattle.reduce_theory.specs.Keys.{IsPoint}
-use Rattle.reduce_theory.specs.Members.{Member-split, Member-passes, Member-filtered, Passing, some_passes, passing}
+use Rattle.reduce_theory.specs.Members.{Member-passes, Member-filtered, Passing, some_passes, passing}
 
 -- ---- old marks
 

@@ -4,20 +4,6 @@ use Rattle.std.specs.List.{list_any}
 use Rattle.std.proofs.Common.{sym, subst, ◌∙◌, inl, inr}
 use Rattle.flow_core.specs.Runs.{Every, Member}
 
-pub Every-member : {A : Type 0} (P : A → Type 0) (xs : List A) (x : A) → Every P xs → Member x xs → P x
-Every-member P [] x h m = absurd m
-Every-member P (y ∷ ys) x h (inl e) = subst P (sym e) h.0
-Every-member P (y ∷ ys) x h (inr m) = Every-member P ys x h.1 m
-
-pub Every-of : {A : Type 0} (P : A → Type 0) (xs : List A) → ((x : A) → Member x xs → P x) → Every P xs
-Every-of P [] f = tt
-Every-of P (x ∷ xs) f = (f x (inl refl), Every-of P xs (λ y m. f y (inr m)))
-
-pub Member-split : {A : Type 0} (x : A) (xs ys : List A) → Member x (xs ++ ys) → Member x xs ⊎ Member x ys
-Member-split x [] ys m = inr m
-Member-split x (y ∷ xs) ys (inl e) = inl (inl e)
-Member-split x (y ∷ xs) ys (inr m) = elim (Member-split x xs ys m) [ inl a ↦ inl (inr a) | inr b ↦ inr b ]
-
 pub Member-map : {A B : Type 0} (f : A → B) (x : A) (xs : List A) → Member x xs → Member (f x) (map f xs)
 Member-map f x [] m = absurd m
 Member-map f x (y ∷ ys) (inl e) = inl (subst (λ v. f x ≡ f v) e refl)

@@ -5,7 +5,7 @@
 //! dataflow", 2013). This room has no code: it says which keys a step evaluates (`specs/Evaluated`), what is kept of one key
 //! (`specs/Keys`), and what follows for one key alone: where nothing is due, what was made is the function of what was fed
 //! (`specs/KeyLaws`), and a step and a seal keep what is kept (`specs/KeySteps`). `specs/ByKey` puts keys together. It
-//! stands on runs and collections; `diff_reduce` stands on it, and so does what counts the work of a dataflow.
+//! stands on runs and collections; `diff_reduce` stands on it.
 #![tactic(auto)]
 
 ghost use Rattle.flow_core.specs.Runs.{Step};

@@ -4,7 +4,7 @@ use Rattle.std.specs.Prelude.{if◌then◌else◌}
 use Rattle.std.specs.Cmp.{IsTotalOrder}
 use Rattle.std.specs.List.{AllWithin, IsFirstMatchOrLen}
 use Rattle.std.specs.List.Sorted.{IsPartitionedBy}
-use Rattle.std.specs.Ordering.{is_eq, is_ne, is_lt, is_gt, ordering_then, ordering_reverse}
+use Rattle.std.specs.Ordering.{is_eq, is_ne, is_lt, is_ge, is_gt, ordering_then, ordering_reverse}
 use Rattle.std.specs.declared.cmp.Ordering.TheVariants.{Less, Equal, Greater}
 use Rattle.weighted.specs.Normal.{Below, Rising}
 use Rattle.weighted.specs.SumLaws.{filtered}
@@ -25,6 +25,16 @@ greater_is : (o : Ordering) → is_lt o ≡ false → is_ne o ≡ true → o ≡
 greater_is Less h n = absurd (cc)
 greater_is Equal h n = absurd (cc)
 greater_is Greater h n = refl
+
+pub not_less : (o : Ordering) → is_ge o ≡ true → is_lt o ≡ false
+not_less Less h = absurd (cc)
+not_less Equal h = refl
+not_less Greater h = refl
+
+pub is_less : (o : Ordering) → is_ge o ≡ false → is_lt o ≡ true
+is_less Less h = refl
+is_less Equal h = absurd (cc)
+is_less Greater h = absurd (cc)
 
 less_not_equal : (o : Ordering) → is_lt o ≡ true → is_eq o ≡ false
 less_not_equal Less h = refl

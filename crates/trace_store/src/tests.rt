@@ -1,6 +1,6 @@
 //! Worked examples of traces.
 
-use crate::Trace;
+use crate::{Cursor, Trace};
 use lattice_time::{Pair, Position, Round, Time, Version};
 use std::alloc::Global;
 use std::test::Fail;
@@ -211,6 +211,35 @@ fn entries_of_a_key_come_in_order(rt: HostRuntime) -> Result<(), Fail> {
     assert_eq!(rt; entries.as_slice(), wanted.as_slice());
     trace.entries_of(3, &mut entries)?;
     assert!(rt; entries.is_empty());
+    Ok(())
+}
+
+/// Whether a cursor that comes from any key finds the entries of these keys, one after the other.
+fn finds(alloc: Global, trace: &Trace<u32, u32, Position>, keys: &[u32]) -> Result<bool, Fail> {
+    let mut cursor = Cursor::new(alloc);
+    let mut found = List::new(alloc);
+    let mut wanted = List::new(alloc);
+    for key in keys {
+        trace.seek_entries(&mut cursor, *key, &mut found)?;
+        trace.entries_of(*key, &mut wanted)?;
+        if found.as_slice() != wanted.as_slice() {
+            return Ok(false);
+        }
+    }
+    Ok(true)
+}
+
+#[test]
+fn keys_are_found_in_any_order(rt: HostRuntime) -> Result<(), Fail> {
+    let alloc = rt.alloc();
+    let mut trace = Trace::new(alloc);
+    for key in 0..40 {
+        let entries = [((key * 2, 1), Weight(1)), ((key, 2), Weight(1))];
+        trace.insert(&batch(alloc, &entries)?, Position(key))?;
+    }
+    assert!(rt; trace.layers() > 1);
+    assert!(rt; finds(alloc, &trace, &[0, 1, 2, 7, 30, 31, 41, 78, 79])?);
+    assert!(rt; finds(alloc, &trace, &[40, 40, 3, 4, 90, 5, 78, 0])?);
     Ok(())
 }
 

@@ -1,6 +1,6 @@
 //! Traces.
 
-ghost use Rattle.std.specs.Prelude.{◌≡◌, ◌+◌, ◌≤◌, ◌^◌, [], ◌++◌, length, OnOk, OnErr, IsTrue, if◌then◌else◌};
+ghost use Rattle.std.specs.Prelude.{◌≡◌, ◌+◌, ◌≤◌, ◌^◌, [], ◌++◌, length, map, OnOk, OnErr, IsTrue, if◌then◌else◌};
 ghost use Rattle.std.specs.List.{Contains};
 ghost use Rattle.std.specs.List.Sorted.{IsStrictlySortedBy};
 ghost use Rattle.std.specs.Ordering.{is_eq};
@@ -12,8 +12,9 @@ ghost use Rattle.weighted.specs.WordLaws.{mapped};
 ghost use Rattle.trace_store.specs.Stored.{stored};
 ghost use Rattle.trace_store.specs.Traces.{IsTimeOf, accumulated, at_time, later, trace_cmp, values_of};
 
+use crate::cursor::Cursor;
 use crate::layers::{merge_onto, put_layer, stay};
-use crate::lookup::{Entries, push_entries, push_times, push_values};
+use crate::lookup::{Entries, push_entries, push_run, push_times, push_values};
 use crate::sealing::one_layer;
 use crate::stamped::stamped;
 use lattice_time::Time;
@@ -135,6 +136,33 @@ impl<K: Record, V: Record, T: Time> Trace<K, V, T> {
         entries.clear();
         for layer in self.layers.as_slice() {
             push_entries(&mut entries, layer, &key)?;
+        }
+        *into = Batch::from_entries(entries)?.into_entries();
+        Ok(())
+    }
+
+    /// The same as `entries_of`. The values of these entries are those of the key, and their times those at which some value
+    /// of it has a weight. Where keys come in rising order, each search goes on from the place at which the one before
+    /// with this cursor ended: it takes time in proportion to the logarithm of the distance, for each layer.
+    ///
+    /// Errors: out of memory; `into` is then any list.
+    pub fn seek_entries(
+        &self,
+        cursor: &mut Cursor,
+        key: K,
+        into: &mut List<(((K, V), T), Weight)>,
+    ) -> Result<(), NoMemory>
+        ensures entries { OnOk result (into.new ≡ filtered (λ r. is_eq (K.cmp r.0.0 key)) self.now.items) }
+        ensures values { OnOk result ((t : T) → values_of K.cmp key (accumulated T.leq t self.now.items) ≡ mapped (λ r. r.0.1) (filtered (λ r. T.leq r.1 t) into.new)) }
+        ensures only { OnOk result ((s : T) → Contains (map (λ e. e.0.1) into.new) s → IsTimeOf (trace_cmp K.cmp V.cmp T.cmp) self.now.items key s) }
+        ensures each { OnOk result ((s : T) → IsTimeOf (trace_cmp K.cmp V.cmp T.cmp) self.now.items key s → Contains (map (λ e. e.0.1) into.new) s) }
+    {
+        let mut entries = mem::replace(into, List::new(self.alloc));
+        entries.clear();
+        cursor.rewind();
+        for layer in self.layers.as_slice() {
+            let run = cursor.run_of(layer, &key)?;
+            push_run(&mut entries, layer, run)?;
         }
         *into = Batch::from_entries(entries)?.into_entries();
         Ok(())

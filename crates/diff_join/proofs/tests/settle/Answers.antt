@@ -1,7 +1,7 @@
 -- The least due time may be stepped.
 use Rattle.std.proofs.Common.{IsTrue, Some}
 use Rattle.flow_core.specs.Runs.{IsLubOf, IsNextDue, times_of}
-use Rattle.diff_join.specs.ListLaws.{each_of}
+use Rattle.flow_core.specs.Lists.{Every-member}
 use Rattle.diff_join.proofs.Settling.{none_above_due, only_due}
 use Rattle.diff_join.proofs.tests.settle.Goals as goal
 
@@ -18,4 +18,4 @@ step-requires-clause-due g c =
 pub step-requires-clause-seal : goal.step-requires-clause-seal
 step-requires-clause-seal g c =
     let next : IsNextDue g.T.Ord.cmp (Some c.in-Some.t) (g.O.Operator.due c.args.operator.now) = rw (c.in-Some.is) at c.next_due.ensures in
-    (each_of (λ d. IsLubOf g.T.Time.lub (times_of c.requires.run.0.steps) d × IsTrue (g.T.Time.leq (g.O.Operator.seal c.args.operator.now) d)) (g.O.Operator.due c.args.operator.now) c.in-Some.t (g.met.O.Operator.answers c.args.operator.now c.requires.run.0 c.requires.run.1).lubs next.0).1
+    (Every-member (λ d. IsLubOf g.T.Time.lub (times_of c.requires.run.0.steps) d × IsTrue (g.T.Time.leq (g.O.Operator.seal c.args.operator.now) d)) (g.O.Operator.due c.args.operator.now) c.in-Some.t (g.met.O.Operator.answers c.args.operator.now c.requires.run.0 c.requires.run.1).lubs next.0).1

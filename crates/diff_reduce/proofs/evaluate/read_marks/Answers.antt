@@ -1,22 +1,12 @@
--- The times of the key's entries, and its points.
-use Rattle.std.proofs.Common.{sym, subst, inl, inr}
-use Rattle.std.specs.Cmp.{tied_itself}
+-- The key's points, and the times of its entries.
+use Rattle.std.proofs.Common.{◌∙◌, ◌++◌, map, ap, sym, subst}
+use Rattle.std.specs.Prelude.{filter}
 use Rattle.std.specs.List.{Contains}
-use Rattle.std.proofs.lemmas.List.Elements.{Contains-append_left, Contains-append_right, Contains-append_cases}
-use Rattle.diff_reduce.proofs.Elements.{contains_member, member_contains}
-use Rattle.diff_reduce.proofs.Outcomes.{OnOk-imply}
-use Rattle.diff_reduce.proofs.Stepping.{due_key, key_due}
+use Rattle.std.specs.Ordering.{is_eq}
 use Rattle.diff_reduce.proofs.evaluate.read_marks.Goals as goal
 
-pub returns-clause-each : goal.returns-clause-each
-returns-clause-each g c = OnOk-imply c.push_seconds.result _ _ (λ is x kept. subst (λ v. Contains v x) (sym is) (elim kept [
-  | inl m ↦ Contains-append_left c.times_of.new.into _ x (c.in_ok-times_of.ensures.each x m)
-  | inr p ↦ Contains-append_right c.times_of.new.into _ x (member_contains _ x (due_key g.K.Ord.cmp g.met.K.Record.same (tied_itself g.met.K.Ord.total) c.args.key x c.args.points.now p))
-])) c.push_seconds.ensures
+pub returns-clause-marks : goal.returns-clause-marks
+returns-clause-marks g c = c.in_ok-push_times.ensures ∙ ap (λ v. v ++ map (λ e. e.0.1) c.args.entries.now) (c.in_ok-push_seconds.ensures ∙ ap (λ v. v ++ map (λ p. p.1) (filter (λ p. is_eq (g.K.Ord.cmp p.0 c.args.key)) c.args.points.now)) c.clear.ensures)
 
-pub returns-clause-only : goal.returns-clause-only
-returns-clause-only g c = OnOk-imply c.push_seconds.result _ _ (λ is x h.
-    elim (Contains-append_cases c.times_of.new.into _ x (subst (λ v. Contains v x) is h)) [
-      | inl m ↦ inl (c.in_ok-times_of.ensures.only x m)
-      | inr p ↦ inr (key_due g.K.Ord.cmp g.met.K.Record.same (tied_itself g.met.K.Ord.total) c.args.key x c.args.points.now (contains_member _ x p))
-    ]) c.push_seconds.ensures
+pub returns-clause-last : goal.returns-clause-last
+returns-clause-last g c = λ a e. subst (λ v. Contains v a) (c.as_slice.ensures ∙ c.in_ok-push_seconds.ensures ∙ ap (λ v. v ++ map (λ p. p.1) (filter (λ p. is_eq (g.K.Ord.cmp p.0 c.args.key)) c.args.points.now)) c.clear.ensures) (c.last_of-last.ensures a e)

@@ -1,7 +1,7 @@
 -- The least due time may be stepped.
 use Rattle.std.proofs.Common.{IsTrue, Some}
 use Rattle.flow_core.specs.Runs.{IsLubOf, IsNextDue, times_of}
-use Rattle.reduce_theory.specs.Members.{Every-member}
+use Rattle.flow_core.specs.Lists.{Every-member}
 use Rattle.diff_reduce.proofs.Settling.{none_above_due, only_due}
 use Rattle.diff_reduce.proofs.tests.settle.Goals as goal
 

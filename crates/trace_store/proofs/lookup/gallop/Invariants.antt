@@ -1,0 +1,14 @@
+use Rattle.std.proofs.Common.{◌≡◌, ◌≤◌, ◌-◌, true, length}
+use Rattle.std.specs.List.{AllWithin}
+use Rattle.std.specs.Ordering.{is_lt}
+use Rattle.trace_store.proofs.lookup.gallop.Given as goal
+
+abbrev pub invariant-loop-low : goal.invariant-loop-low
+invariant-loop-low g l = record {
+  order : l.from ≤ l.low;
+  bound : l.low ≤ length l.layer;
+  before : AllWithin (λ e. is_lt (g.K.Ord.cmp e.0.0.0 l.key) ≡ true) l.layer 0 l.low;
+}
+
+abbrev pub decreases-loop-low : goal.decreases-loop-low
+decreases-loop-low g l = length l.layer - l.low
