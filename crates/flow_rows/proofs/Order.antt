@@ -7,7 +7,7 @@ use Rattle.std.specs.Cmp.{IsTotalOrder}
 use Rattle.std.specs.List.{list_all}
 use Rattle.std.proofs.lemmas.Bool.{false≢true}
 use Rattle.std.proofs.lemmas.Cmp.{upto}
-use Rattle.flow_core.specs.Runs.{Every, NoneAbove, Step, times_of}
+use Rattle.flow_core.specs.Runs.{Every, NoneAbove}
 use Rattle.flow_core.specs.Lists.{Every-map}
 
 module _ {T : Type 0} (cmp : T → T → Ordering) (total : IsTotalOrder cmp) (same : (x y : T) → cmp x y ≡ Equal → x ≡ y) where
@@ -34,8 +34,3 @@ both_true false b h = (refl, h)
 pub none_above : {T : Type 0} (leq : T → T → Bool) (t : T) (times : List T) → list_all (λ s. not (leq t s)) times ≡ true → NoneAbove leq t times
 none_above leq t [] h = tt
 none_above leq t (s ∷ ss) h = let k = both_true (leq t s) (list_all (λ s. not (leq t s)) ss) h in (k.0, none_above leq t ss k.1)
-
--- one more step has one more time
-pub times_more : {T I O : Type 0} (steps : List (Step T I O)) (s : Step T I O) → times_of (steps ++ s ∷ []) ≡ times_of steps ++ s.time ∷ []
-times_more [] s = refl
-times_more (x ∷ steps) s = ap (λ v. x.time ∷ v) (times_more steps s)

@@ -2,17 +2,13 @@
 
 ghost use Rattle.std.specs.Prelude.{◌<◌, ◌%◌};
 
-use flow_core::Operator;
-use lattice_time::{Pair, Position, Round, Time};
+use lattice_time::Time;
 use std::alloc::Global;
-use surge_outside::{Counted, List, NoMemory, Record};
+use surge_outside::{List, NoMemory, Record};
 use weighted::{Batch, Weight};
 
-/// A time of a loop, in its outer dataflow.
-pub type Nested = Pair<Position, Round>;
-
 /// A record with its weight, at a time.
-pub type Timed<R> = (Nested, (R, Weight));
+pub type Timed<T, R> = (T, (R, Weight));
 
 /// Numbers drawn one after the other (Knuth's linear congruential generator).
 #[derive(Drop)]
@@ -31,24 +27,9 @@ impl Draws {
         ((self.state >> 33) as u32) % below
     }
 
-    // A number below five, the small ones more often.
-    fn early(&mut self) -> u32 {
+    /// A number below five, the small ones more often.
+    pub fn early(&mut self) -> u32 {
         self.draw(5).min(self.draw(5)).min(self.draw(5))
-    }
-
-    /// A time of a grid of five by five, the early ones more often.
-    pub fn time(&mut self) -> Nested {
-        let outer = self.early();
-        let inner = self.early();
-        at(outer, inner)
-    }
-}
-
-/// The time of these numbers.
-pub fn at(outer: u32, inner: u32) -> Nested {
-    Pair {
-        outer: Position(outer),
-        inner: Round(inner),
     }
 }
 
@@ -83,10 +64,10 @@ pub fn drawn<E: Reference>(
 }
 
 /// Adds the entries of a batch, at a time.
-pub fn note<R: Record>(
-    entries: &mut List<Timed<R>>,
+pub fn note<T: Time, R: Record>(
+    entries: &mut List<Timed<T, R>>,
     batch: &Batch<R>,
-    t: Nested,
+    t: T,
 ) -> Result<(), NoMemory> {
     for entry in batch.as_slice() {
         entries.push((t, *entry))?;
@@ -95,10 +76,10 @@ pub fn note<R: Record>(
 }
 
 /// The sum of the entries at or below a time.
-pub fn sum_to<R: Record>(
+pub fn sum_to<T: Time, R: Record>(
     alloc: Global,
-    entries: &List<Timed<R>>,
-    t: Nested,
+    entries: &List<Timed<T, R>>,
+    t: T,
 ) -> Result<Batch<R>, NoMemory> {
     let mut sum = List::new(alloc);
     for (s, entry) in entries.as_slice() {

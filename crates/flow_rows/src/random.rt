@@ -6,7 +6,8 @@ ghost use Rattle.flow_core.specs.Runs.{IsFresh};
 ghost use Rattle.flow_rows.specs.Driven.{Drives};
 
 use crate::drive::{take_seal, take_step};
-use crate::history::{Draws, Nested, Reference, Timed, at, drawn, note, same, sum_to};
+use crate::grid::Grid;
+use crate::history::{Draws, Reference, Timed, drawn, note, same, sum_to};
 use flow_core::Operator;
 use lattice_time::Time;
 use std::alloc::Global;
@@ -15,26 +16,26 @@ use weighted::Batch;
 
 /// All that an operator was fed and made.
 #[derive(Drop)]
-pub struct History<I: Record, O: Record> {
-    pub fed: List<Timed<I>>,
-    pub made: List<Timed<O>>,
+pub struct History<T: Time, I: Record, O: Record> {
+    pub fed: List<Timed<T, I>>,
+    pub made: List<Timed<T, O>>,
 }
 
 /// Steps the operator at a time that is drawn or due, with a batch that is drawn, if its contract allows that.
-fn turn<U: Counted, O: Operator<Nested, U>, E: Reference<Input = O::Input, Output = O::Output>>(
+fn turn<T: Grid, U: Counted, O: Operator<T, U>, E: Reference<Input = O::Input, Output = O::Output>>(
     alloc: Global,
     operator: &mut O,
     reference: &E,
     draws: &mut Draws,
-    times: &mut List<Nested>,
-    seal: Nested,
-    history: &mut History<O::Input, O::Output>,
+    times: &mut List<T>,
+    seal: T,
+    history: &mut History<T, O::Input, O::Output>,
     updater: &mut U,
 ) -> Result<(), NoMemory>
     requires { Drives O.stands O.seal O.spent operator.old times.old seal }
     ensures { OnOk result (Drives O.stands O.seal O.spent operator.new times.new seal) }
 {
-    let mut t = draws.time();
+    let mut t = T::drawn(draws);
     if let Some(due) = operator.next_due() {
         if draws.draw(2) == 0 {
             t = due;
@@ -50,12 +51,12 @@ fn turn<U: Counted, O: Operator<Nested, U>, E: Reference<Input = O::Input, Outpu
 }
 
 /// Steps the operator where it is due, until nothing is, and so many times at most.
-fn settle<U: Counted, O: Operator<Nested, U>>(
+fn settle<T: Grid, U: Counted, O: Operator<T, U>>(
     alloc: Global,
     operator: &mut O,
-    times: &mut List<Nested>,
-    seal: Nested,
-    history: &mut History<O::Input, O::Output>,
+    times: &mut List<T>,
+    seal: T,
+    history: &mut History<T, O::Input, O::Output>,
     updater: &mut U,
 ) -> Result<(), NoMemory>
     requires { Drives O.stands O.seal O.spent operator.old times.old seal }
@@ -74,17 +75,17 @@ fn settle<U: Counted, O: Operator<Nested, U>>(
 }
 
 /// Whether what was made is the function of what was fed, at each time of the grid at or above the seal.
-fn holds<E: Reference>(
+fn holds<T: Grid, E: Reference>(
     alloc: Global,
     reference: &E,
-    history: &History<E::Input, E::Output>,
-    seal: Nested,
+    history: &History<T, E::Input, E::Output>,
+    seal: T,
 ) -> Result<bool, NoMemory> {
-    for i in 0..36 {
-        let t = at(i / 6, i % 6);
-        if seal.leq(&t) {
-            let fed = sum_to(alloc, &history.fed, t)?;
-            let made = sum_to(alloc, &history.made, t)?;
+    let times = T::all(alloc)?;
+    for t in times.as_slice() {
+        if seal.leq(t) {
+            let fed = sum_to(alloc, &history.fed, *t)?;
+            let made = sum_to(alloc, &history.made, *t)?;
             if !same(&made, &reference.output(alloc, &fed)?) {
                 return Ok(false);
             }
@@ -94,16 +95,21 @@ fn holds<E: Reference>(
 }
 
 /// Some turns, then steps until nothing is due, then a seal: whether all that was made is right before it and after it.
-fn phase<U: Counted, O: Operator<Nested, U>, E: Reference<Input = O::Input, Output = O::Output>>(
+fn phase<
+    T: Grid,
+    U: Counted,
+    O: Operator<T, U>,
+    E: Reference<Input = O::Input, Output = O::Output>,
+>(
     alloc: Global,
     operator: &mut O,
     reference: &E,
     draws: &mut Draws,
-    times: &mut List<Nested>,
-    seal: Nested,
-    history: &mut History<O::Input, O::Output>,
+    times: &mut List<T>,
+    seal: T,
+    history: &mut History<T, O::Input, O::Output>,
     updater: &mut U,
-) -> Result<Option<Nested>, NoMemory>
+) -> Result<Option<T>, NoMemory>
     requires { Drives O.stands O.seal O.spent operator.old times.old seal }
     ensures { IfOk result (λ sealed. IfSome sealed (λ f. Drives O.stands O.seal O.spent operator.new times.new f)) }
 {
@@ -116,24 +122,29 @@ fn phase<U: Counted, O: Operator<Nested, U>, E: Reference<Input = O::Input, Outp
     if operator.next_due().is_some() || !holds(alloc, reference, history, seal)? {
         return Ok(None);
     }
-    let f = seal.lub(&draws.time());
+    let f = seal.lub(&T::drawn(draws));
     Ok(Some(take_seal(operator, times, seal, f)?))
 }
 
 /// A run of three phases from this seed, over a new operator: how many steps it took, and None where something that was
 /// made is wrong.
-pub fn run<U: Counted, O: Operator<Nested, U>, E: Reference<Input = O::Input, Output = O::Output>>(
+pub fn run<
+    T: Grid,
+    U: Counted,
+    O: Operator<T, U>,
+    E: Reference<Input = O::Input, Output = O::Output>,
+>(
     alloc: Global,
     operator: &mut O,
     reference: &E,
     seed: u64,
     updater: &mut U,
 ) -> Result<Option<usize>, NoMemory>
-    requires { IsFresh O.stands O.due O.seal O.spent (⟦<Nested as Time>⟧).least operator.old }
+    requires { IsFresh O.stands O.due O.seal O.spent T.least operator.old }
 {
     let mut draws = Draws { state: seed };
     let mut times = List::new(alloc);
-    let mut seal = Nested::least();
+    let mut seal = T::least();
     let mut history = History {
         fed: List::new(alloc),
         made: List::new(alloc),

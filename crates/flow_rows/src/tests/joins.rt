@@ -2,21 +2,14 @@
 
 ghost use Rattle.std.specs.Prelude.{◌==◌, Some, None, if◌then◌else◌};
 
-use crate::{Draws, Nested, Reference, run};
+use crate::{Draws, Grid, Reference, run};
 use diff_join::{Join, Pairing};
-use flow_core::Side;
+use flow_core::{NoCalls, Side};
+use lattice_time::{Pair, Position, Round, Version};
 use std::alloc::Global;
 use std::test::Fail;
-use surge_outside::{Counted, List, NoMemory};
+use surge_outside::{List, NoMemory};
 use weighted::{Batch, Weight};
-
-/// An updater that is never called.
-#[derive(Drop)]
-pub(super) struct NoCalls;
-
-impl Counted for NoCalls {
-    ghost calls = { λ _. 0 };
-}
 
 /// The input of a join: values of three keys on both sides.
 pub(super) type Sides = Side<(u32, u32), (u32, u32)>;
@@ -86,22 +79,26 @@ impl Reference for PairByPair {
 }
 
 /// The join that is tested.
-pub(super) type TestJoin = Join<u32, u32, u32, Unequal, Nested, NoCalls>;
+pub(super) type TestJoin<T> = Join<u32, u32, u32, Unequal, T, NoCalls>;
 
-// How many steps a join takes from this seed, or None where it is wrong.
-fn steps_from(alloc: Global, seed: u64) -> Result<Option<usize>, NoMemory> {
-    let mut join: TestJoin = Join::new(alloc, Unequal);
-    run(alloc, &mut join, &PairByPair, seed, &mut NoCalls)
+// How many steps joins take from some seeds, or None where one is wrong.
+fn steps<T: Grid>(alloc: Global) -> Result<Option<usize>, NoMemory> {
+    let mut steps = 0usize;
+    for seed in 0..30 {
+        let mut join: TestJoin<T> = Join::new(alloc, Unequal);
+        match run(alloc, &mut join, &PairByPair, seed, &mut NoCalls)? {
+            Some(more) => steps = steps.wrapping_add(more),
+            None => return Ok(None),
+        }
+    }
+    Ok(Some(steps))
 }
 
 #[test]
 fn joins_at_random_times(rt: HostRuntime) -> Result<(), Fail> {
-    let mut steps = 0usize;
-    for seed in 0..40 {
-        let taken = steps_from(rt.alloc(), seed)?;
-        assert!(rt; taken.is_some());
-        steps = steps.wrapping_add(taken.unwrap_or(0));
-    }
-    assert!(rt; steps > 200);
+    let alloc = rt.alloc();
+    assert!(rt; steps::<Version>(alloc)? > Some(30));
+    assert!(rt; steps::<Pair<Version, Position>>(alloc)? > Some(100));
+    assert!(rt; steps::<Pair<Pair<Version, Position>, Round>>(alloc)? > Some(100));
     Ok(())
 }

@@ -3,11 +3,12 @@
 ghost use Rattle.std.specs.Prelude.{refl};
 ghost use Rattle.flow_rows.specs.Logic.{least_and_count};
 
-use super::joins::{NoCalls, PairByPair, Sides, TestJoin, Unequal};
-use crate::{Draws, Nested, Reference, run};
+use super::joins::{PairByPair, Sides, TestJoin, Unequal};
+use crate::{Draws, Grid, Reference, run};
 use diff_join::Join;
 use diff_reduce::{KeyLogic, Reduce};
-use flow_core::Chain;
+use flow_core::{Chain, NoCalls};
+use lattice_time::{Pair, Position, Round, Version};
 use std::alloc::Global;
 use std::test::Fail;
 use surge_outside::{List, NoMemory};
@@ -44,7 +45,7 @@ impl KeyLogic<NoCalls> for LeastAndCount {
 
 /// The same of each key, computed from all that was fed.
 #[derive(Drop)]
-struct KeyByKey;
+pub(super) struct KeyByKey;
 
 // The least entry of a key, and how many entries it has.
 fn entries_of(fed: &Batch<(u32, u32)>, key: u32) -> (Option<(u32, Weight)>, u64) {
@@ -113,42 +114,50 @@ impl Reference for Both {
 }
 
 /// The reduce that is tested.
-type TestReduce = Reduce<LeastAndCount, Nested, NoCalls>;
+type TestReduce<T> = Reduce<LeastAndCount, T, NoCalls>;
 
-// How many steps a reduce takes from this seed, or None where it is wrong.
-fn steps_from(alloc: Global, seed: u64) -> Result<Option<usize>, NoMemory> {
-    let mut reduce: TestReduce = Reduce::new(alloc, LeastAndCount);
-    run(alloc, &mut reduce, &KeyByKey, seed, &mut NoCalls)
+// How many steps reduces take from some seeds, or None where one is wrong.
+fn steps<T: Grid>(alloc: Global) -> Result<Option<usize>, NoMemory> {
+    let mut steps = 0usize;
+    for seed in 0..30 {
+        let mut reduce: TestReduce<T> = Reduce::new(alloc, LeastAndCount);
+        match run(alloc, &mut reduce, &KeyByKey, seed, &mut NoCalls)? {
+            Some(more) => steps = steps.wrapping_add(more),
+            None => return Ok(None),
+        }
+    }
+    Ok(Some(steps))
 }
 
-// The same of a reduce behind a join.
-fn steps_of_both(alloc: Global, seed: u64) -> Result<Option<usize>, NoMemory> {
-    let join: TestJoin = Join::new(alloc, Unequal);
-    let reduce: TestReduce = Reduce::new(alloc, LeastAndCount);
-    let mut chain = Chain::new(join, reduce);
-    run(alloc, &mut chain, &Both, seed, &mut NoCalls)
+// The same of reduces behind joins.
+fn steps_of_both<T: Grid>(alloc: Global) -> Result<Option<usize>, NoMemory> {
+    let mut steps = 0usize;
+    for seed in 0..30 {
+        let join: TestJoin<T> = Join::new(alloc, Unequal);
+        let reduce: TestReduce<T> = Reduce::new(alloc, LeastAndCount);
+        let mut chain = Chain::new(join, reduce);
+        match run(alloc, &mut chain, &Both, seed, &mut NoCalls)? {
+            Some(more) => steps = steps.wrapping_add(more),
+            None => return Ok(None),
+        }
+    }
+    Ok(Some(steps))
 }
 
 #[test]
 fn reduces_at_random_times(rt: HostRuntime) -> Result<(), Fail> {
-    let mut steps = 0usize;
-    for seed in 0..40 {
-        let taken = steps_from(rt.alloc(), seed)?;
-        assert!(rt; taken.is_some());
-        steps = steps.wrapping_add(taken.unwrap_or(0));
-    }
-    assert!(rt; steps > 200);
+    let alloc = rt.alloc();
+    assert!(rt; steps::<Version>(alloc)? > Some(30));
+    assert!(rt; steps::<Pair<Version, Position>>(alloc)? > Some(100));
+    assert!(rt; steps::<Pair<Pair<Version, Position>, Round>>(alloc)? > Some(100));
     Ok(())
 }
 
 #[test]
 fn a_join_and_then_a_reduce_at_random_times(rt: HostRuntime) -> Result<(), Fail> {
-    let mut steps = 0usize;
-    for seed in 0..40 {
-        let taken = steps_of_both(rt.alloc(), seed)?;
-        assert!(rt; taken.is_some());
-        steps = steps.wrapping_add(taken.unwrap_or(0));
-    }
-    assert!(rt; steps > 200);
+    let alloc = rt.alloc();
+    assert!(rt; steps_of_both::<Version>(alloc)? > Some(30));
+    assert!(rt; steps_of_both::<Pair<Version, Position>>(alloc)? > Some(100));
+    assert!(rt; steps_of_both::<Pair<Pair<Version, Position>, Round>>(alloc)? > Some(100));
     Ok(())
 }

@@ -1,7 +1,7 @@
 -- The run goes on by this step.
 use Rattle.std.proofs.Common.{◌∙◌, [], ◌∷◌, ◌++◌, ap, sym, subst}
 use Rattle.flow_core.specs.Runs.{NoneAbove, continued}
-use Rattle.flow_rows.proofs.Order.{times_more}
+use Rattle.flow_core.specs.RunLaws.{times_of-append}
 use Rattle.flow_rows.proofs.drive.take_step.Goals as goal
 
 pub returns : goal.returns
@@ -11,7 +11,7 @@ returns g c =
     record {
       run = continued d.run c.args.t c.args.delta.now c.in_ok-made.made;
       stood = c.in_ok-made.ensures.runs d.run d.stood none;
-      times_are = times_more d.run.steps _ ∙ ap (λ ts. ts ++ c.args.t ∷ []) d.times_are ∙ sym c.in_ok-push.ensures.ok;
+      times_are = times_of-append d.run.steps (_ ∷ []) ∙ ap (λ ts. ts ++ c.args.t ∷ []) d.times_are ∙ sym c.in_ok-push.ensures.ok;
       sealed_at = c.in_ok-made.ensures.seal ∙ d.sealed_at;
       live = c.in_ok-made.ensures.live;
     }

@@ -1,0 +1,4 @@
+mod Walks
+mod Dues
+mod Laps
+mod Outcomes
