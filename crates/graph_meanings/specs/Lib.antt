@@ -1,0 +1,12 @@
+pub mod Meanings
+pub mod Laws
+pub mod Weights
+pub mod Clamping
+pub mod LeastSoFar
+pub mod LeastCosts
+pub mod SettledCosts
+pub mod SourceLaws
+pub mod HopsMeaning
+pub mod DistMeaning
+pub mod WccMeaning
+pub mod ViewMeanings
