@@ -1,0 +1,12 @@
+pub mod Items
+pub mod Inputs
+pub mod Work
+pub mod Parts
+pub mod Laws
+pub mod InputLaws
+pub mod WorkLaws
+pub mod PartLaws
+pub mod SettledLaws
+pub mod CountLaws
+pub mod SplitLaws
+pub mod StepLaws

@@ -1,0 +1,3 @@
+//! Tests of the counted work.
+
+mod two_edges;
