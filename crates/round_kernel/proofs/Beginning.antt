@@ -1,0 +1,131 @@
+-- What a step is given: a first view, or one behind another; and the lists at round 0.
+use Rattle.std.proofs.Common.{◌≡◌, ◌∙◌, ◌<◌, ◌^◌, ◌+◌, ◌∷◌, [], sym, ap, subst, refl, ℕ, Bool, true, false, List, None, length, get_or, map, arith, inl, inr}
+use Rattle.std.specs.Prelude.{All, Contains, replicate}
+use Rattle.std.proofs.lemmas.List.{get_or-replicate}
+use Rattle.std.specs.List.{range_with_len}
+use Rattle.std.proofs.lemmas.List.Concat.{flat_map-cons}
+use Rattle.std.proofs.lemmas.List.Elements.{All-nil, All-contains, Contains-append_left, Contains-append_right}
+use Rattle.std.proofs.lemmas.List.Sorted.{All-permutation}
+use Rattle.graph_model.specs.declared.value.Val.{Val}
+use Rattle.graph_model.specs.declared.number.NodeNo.{NodeNo}
+use Rattle.graph_model.specs.declared.number.EdgeNo.{EdgeNo}
+use Rattle.graph_model.specs.GraphData.{GraphData}
+use Rattle.vertex_lang.specs.declared.arc.Arc.{Arc}
+use Rattle.vertex_lang.specs.declared.program.Program.{Program}
+use Rattle.vertex_lang.specs.declared.program.Along.{Along}
+use Rattle.vertex_lang.specs.declared.program.Along.TheVariants as along
+use Rattle.vertex_lang.specs.ArcLaws.{arcs-run}
+use Rattle.vertex_lang.specs.Arcs.{arcs_between, arcs_of_edge, forward, backward, IsArc, outdeg}
+use Rattle.vertex_lang.specs.Directions.{RunsAlong}
+use Rattle.vertex_lang.specs.Expressions.{Answer, start_of}
+use Rattle.vertex_lang.specs.ExtremeLaws.{contains-here, contains-there, contains-none, contains-cases}
+use Rattle.vertex_lang.specs.RoundLaws.{lone_starts, length-lone}
+use Rattle.vertex_lang.specs.Rounds.{nodes_of, value_at, lone}
+use Rattle.round_kernel.specs.declared.history.Change.{Change}
+use Rattle.round_kernel.specs.declared.history.History.{History}
+use Rattle.round_kernel.specs.declared.round.Frame.{Frame}
+use Rattle.round_kernel.specs.declared.round.Lists.{Lists}
+use Rattle.round_kernel.specs.declared.rows.Rows.{Rows}
+use Rattle.round_kernel.specs.Sides.{arcs_in, IsTurned, AreDegrees, AreSent, MayKeep, IsRound}
+use Rattle.lone_work.specs.Work.{node_marked}
+use Rattle.round_kernel.specs.Histories.{IsHistory, HasChanges, HasNodes}
+use Rattle.round_kernel.specs.RowLists.{edge}
+use Rattle.round_kernel.specs.Queues.{IsQueue}
+use Rattle.round_kernel.specs.Rounds.{was_touched}
+use Rattle.round_kernel.specs.Frames.{IsFrame, StandAt, count_in, was_touched_at}
+use Rattle.round_kernel.specs.Steps.{AreAlong, TellsAll}
+use Rattle.round_kernel.proofs.Calming.{none-marked}
+
+-- ---- no view before
+
+-- in no view nothing changes
+pub none-history : (answer : Answer) (p : Program) (graph : GraphData) (rounds : ℕ) (h : History) → h.changes ≡ [] → h.marks ≡ [] → IsHistory answer p graph None rounds h
+none-history answer p graph rounds h ec em = record {
+  changes = λ k low. subst (λ (cs : List Change). HasChanges (length graph.ids) [] [] cs) (sym (ap (λ (xs : List (List Change)). get_or xs k []) ec)) (record {
+    within = All-nil (λ (c : Change). c.node.0 < length graph.ids);
+    values = All-nil (λ (c : Change). c.value ≡ value_at [] c.node.0);
+    listed = λ v under. refl;
+  });
+  marks = λ k low. subst (λ (ns : List NodeNo). HasNodes (length graph.ids) (λ v. node_marked answer p graph None v (k + 1)) ns) (sym (ap (λ (xs : List (List NodeNo)). get_or xs k []) em)) (record {
+    within = All-nil (λ (n : NodeNo). n.0 < length graph.ids);
+    listed = λ v under. sym (none-marked answer p graph v (k + 1));
+  });
+}
+
+-- ---- arcs of edges that are told
+
+in-edge : (way : Along) (graph : GraphData) (a : Arc) → RunsAlong way graph a → Contains (arcs_of_edge way graph a.edge) a
+in-edge along.Out graph a e = subst (λ (x : Arc). Contains (x ∷ []) a) e (contains-here a [])
+in-edge along.In graph a e = subst (λ (x : Arc). Contains (x ∷ []) a) e (contains-here a [])
+in-edge along.Both graph a (inl e) = subst (λ (x : Arc). Contains (x ∷ backward graph a.edge ∷ []) a) e (contains-here a (backward graph a.edge ∷ []))
+in-edge along.Both graph a (inr e) = contains-there (forward graph a.edge) (backward graph a.edge ∷ []) a (subst (λ (x : Arc). Contains (x ∷ []) a) e (contains-here a []))
+
+in-edges : (way : Along) (graph : GraphData) (edges : List EdgeNo) (a : Arc) → Contains edges a.edge → RunsAlong way graph a → Contains (arcs_between way graph edges) a
+in-edges way graph [] a h e = absurd (contains-none a.edge h)
+in-edges way graph (x ∷ edges) a h e = subst (λ (xs : List Arc). Contains xs a) (sym (flat_map-cons (arcs_of_edge way graph) x edges)) (elim (contains-cases x edges a.edge h) [
+  | inl here ↦ Contains-append_left (arcs_of_edge way graph x) (arcs_between way graph edges) a (subst (λ (n : EdgeNo). Contains (arcs_of_edge way graph n) a) (sym here) (in-edge way graph a e))
+  | inr there ↦ Contains-append_right (arcs_of_edge way graph x) (arcs_between way graph edges) a (in-edges way graph edges a there e)
+])
+
+-- each arc whose edge is in one of the two views alone is among those of the edges that are told
+pub turned-told : (way : Along) (graph : GraphData) (rows : Rows) (old new : List Bool) (turned : List EdgeNo) (arcs : List Arc) → All (IsArc graph) rows.by_head → length old ≡ length graph.ends → AreAlong way graph rows → TellsAll old new turned
+    → arcs ≡ arcs_between way graph turned → All (λ a. IsTurned old new a → Contains arcs a) rows.by_head
+turned-told way graph rows old new turned arcs within size is tells e = λ i d low t.
+    let a = get_or rows.by_head i d in
+    let arc : IsArc graph a = within i d low in
+    let runs : RunsAlong way graph a = All-permutation (RunsAlong way graph) (arcs_between way graph (map edge (range_with_len 0 (length graph.ends)))) rows.by_head is (arcs-run way graph (map edge (range_with_len 0 (length graph.ends)))) i d low in
+    subst (λ (xs : List Arc). Contains xs a) (sym e) (in-edges way graph turned a (tells a.edge.0 (omega (arith, arc.edge, size)) t) runs)
+
+-- ---- the lists at round 0
+
+-- a flag that all have
+pub all-first : (n v : ℕ) (b : Bool) → v < n → get_or (replicate n b) v false ≡ b
+all-first n v b low = get_or-replicate n v b false low
+
+module _ (answer : Answer) (f : Frame) (frame : IsFrame answer f f.limit) where
+  at-first : (edges : List Bool) (degrees : List ℕ) (values : List Val) → length edges ≡ length f.graph.now.ends → length degrees ≡ count_in f
+      → AreDegrees f.program.now f.graph.now (arcs_in f.rows.now.by_head edges) degrees → ((u : ℕ) → u < count_in f → get_or degrees u 0 < 2 ^ 32)
+      → values ≡ map (start_of f.program.now f.graph.now) (nodes_of f.graph.now) → IsRound answer f.program.now f.graph.now f.rows.now.by_head edges degrees values 0
+  at-first edges degrees values size count are small e =
+      let is : values ≡ lone answer f.program.now f.graph.now (arcs_in f.rows.now.by_head edges) 0 = e ∙ sym (lone_starts answer f.program.now f.graph.now (arcs_in f.rows.now.by_head edges)) in
+      record {
+        sized = record { edges_size = size; degrees_size = count; degrees_small = small; values_size = ap (λ (vs : List Val). length vs) is ∙ length-lone answer f.program.now f.graph.now (arcs_in f.rows.now.by_head edges) 0 };
+        degrees_are = are;
+        values_are = is;
+      }
+
+  untouched-start : (first : Bool) (v : ℕ) → first ≡ was_touched answer f.program.now f.graph.now f.rows.now.by_head first f.old.now f.new.now 0 v
+  untouched-start true v = refl
+  untouched-start false v = refl
+
+  pub at-start : (lists : Lists)
+      → lists.starts.items ≡ map (start_of f.program.now f.graph.now) (nodes_of f.graph.now)
+      → lists.old_now.items ≡ lists.starts.items → lists.old_before.items ≡ lists.starts.items → lists.new_now.items ≡ lists.starts.items → lists.new_before.items ≡ lists.starts.items
+      → length lists.old_degrees.items ≡ count_in f → AreDegrees f.program.now f.graph.now (arcs_in f.rows.now.by_head f.old.now) lists.old_degrees.items → ((u : ℕ) → u < count_in f → get_or lists.old_degrees.items u 0 < 2 ^ 32)
+      → length lists.new_degrees.items ≡ count_in f → AreDegrees f.program.now f.graph.now (arcs_in f.rows.now.by_head f.new.now) lists.new_degrees.items → ((u : ℕ) → u < count_in f → get_or lists.new_degrees.items u 0 < 2 ^ 32)
+      → length lists.touched.items ≡ count_in f → ((v : ℕ) → v < count_in f → get_or lists.touched.items v false ≡ f.first)
+      → length lists.marked.items ≡ count_in f
+      → length lists.watched.items ≡ count_in f → All (λ a. get_or lists.watched.items a.tail.0 false ≡ true) f.turned.now
+      → MayKeep lists.alike f.program.now f.graph.now → AreSent lists.alike f.program.now f.graph.now lists.new_degrees.items lists.starts.items lists.new_sent.items → AreSent lists.alike f.program.now f.graph.now lists.old_degrees.items lists.starts.items lists.old_sent.items → lists.before_sent.items ≡ lists.new_sent.items
+      → IsQueue (count_in f) lists.queue → StandAt answer f 0 (was_touched_at answer f 0) lists
+  at-start lists es eon eob enn enb sod aod bod snd and bnd st at sm sw aw mk kn ko eb q =
+      let old = at-first f.old.now lists.old_degrees.items lists.old_now.items frame.old_size sod aod bod (eon ∙ es) in
+      record {
+        starts = es;
+        new_now = at-first f.new.now lists.new_degrees.items lists.new_now.items frame.new_size snd and bnd (enn ∙ es);
+        new_before = at-first f.new.now lists.new_degrees.items lists.new_before.items frame.new_size snd and bnd (enb ∙ es);
+        old_now = λ one. old;
+        old_before = λ one. at-first f.old.now lists.old_degrees.items lists.old_before.items frame.old_size sod aod bod (eob ∙ es);
+        old_sized = old.sized;
+        old_before_size = (at-first f.old.now lists.old_degrees.items lists.old_before.items frame.old_size sod aod bod (eob ∙ es)).sized.values_size;
+        touched_size = st;
+        touched_are = λ v low. at v low ∙ untouched-start f.first v;
+        marked_size = sm;
+        watched_size = sw;
+        watched_are = λ one i d low t. All-contains (λ (a : Arc). get_or lists.watched.items a.tail.0 false ≡ true) f.turned.now (get_or f.rows.now.by_head i d) aw (frame.turned one i d low t);
+        keeps = mk;
+        new_sent = subst (λ (vs : List Val). AreSent lists.alike f.program.now f.graph.now lists.new_degrees.items vs lists.new_sent.items) (sym enn) kn;
+        before_sent = subst (λ (vs : List Val). AreSent lists.alike f.program.now f.graph.now lists.new_degrees.items vs lists.before_sent.items) (sym enb) (subst (λ (vs : List Val). AreSent lists.alike f.program.now f.graph.now lists.new_degrees.items lists.starts.items vs) (sym eb) kn);
+        old_sent = subst (λ (vs : List Val). AreSent lists.alike f.program.now f.graph.now lists.old_degrees.items vs lists.old_sent.items) (sym eon) ko;
+        queue = q;
+      }

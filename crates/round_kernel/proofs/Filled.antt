@@ -1,0 +1,148 @@
+-- When a round begins, all who may be active or counted in it wait.
+use Rattle.std.proofs.Common.{◌≡◌, ◌∙◌, ◌<◌, ◌+◌, ◌-◌, [], suc, sym, ap, subst, refl, ℕ, Bool, true, false, List, Some, None, get_or, arith, inl, inr}
+use Rattle.std.specs.Prelude.{All, ◌⊎◌, ◌||◌}
+use Rattle.std.proofs.lemmas.Bool.{cases_Bool}
+use Rattle.std.proofs.lemmas.List.Sorted.{All-permutation, IsPermutation-sym}
+use Rattle.graph_model.specs.declared.value.Val.{Val}
+use Rattle.vertex_lang.specs.declared.arc.Arc.{Arc}
+use Rattle.vertex_lang.specs.declared.program.Program.{Program}
+use Rattle.graph_model.specs.GraphData.{GraphData}
+use Rattle.vertex_lang.specs.Expressions.{Answer}
+use Rattle.vertex_lang.specs.Rounds.{value_at, lone}
+use Rattle.lone_work.specs.Work.{node_active, node_marked, touched_before, lone_in}
+use Rattle.round_kernel.specs.declared.history.Change.{Change}
+use Rattle.round_kernel.specs.declared.queue.Queue.{Queue}
+use Rattle.round_kernel.specs.declared.round.Frame.{Frame}
+use Rattle.round_kernel.specs.declared.round.Lists.{Lists}
+use Rattle.round_kernel.specs.Sides.{arcs_in, AreDegrees, IsTurned}
+use Rattle.round_kernel.specs.Histories.{HasChanges, is_changed, is_listed}
+use Rattle.round_kernel.specs.Queues.{waits, StillWait, IsHeard, DegreeAgrees, AllHear}
+use Rattle.round_kernel.specs.Rounds.{old_view}
+use Rattle.round_kernel.specs.Frames.{IsFrame, StandAt, AreCalm, AreShown, count_in, lone_at, new_arcs, old_arcs, was_touched_at, marked_before}
+use Rattle.round_kernel.proofs.Waiting.{clash}
+use Rattle.round_kernel.proofs.Calm.{Stays, calm-first}
+use Rattle.round_kernel.proofs.Filling.{changed-at, listed-at, unchanged-at, heard-still, idle-later, idle-start}
+use Rattle.round_kernel.proofs.Calming.{calm-by}
+
+degrees-at : (p : Program) (graph : GraphData) (arcs : List Arc) (degrees ds : List ℕ) → ds ≡ degrees → AreDegrees p graph arcs degrees → AreDegrees p graph arcs ds
+degrees-at p graph arcs degrees ds e h = subst (λ (xs : List ℕ). AreDegrees p graph arcs xs) (sym e) h
+
+module _ (answer : Answer) (f : Frame) (r : ℕ) (frame : IsFrame answer f f.limit) where
+  -- ---- at round 0
+
+  pub start-calm : (lists : Lists) (od nd : List ℕ) → r ≡ 0 → f.first ≡ false → StandAt answer f r (was_touched_at answer f r) lists → od ≡ lists.old_degrees.items → nd ≡ lists.new_degrees.items
+      → All (λ a. waits lists.queue a.head.0 ≡ true) f.turned.now
+      → All (λ t. DegreeAgrees f.by_degree od nd t.tail.0 ⊎ AllHear f.rows.now.by_tail lists.queue t.tail.0) f.turned.now
+      → AreCalm answer f r lists
+  start-calm lists od nd at0 one u eo en heads readers = calm-by answer f r lists active (λ v low idle marked was. clash (was_touched_at answer f r v) (untouched v) was) where
+    active : (v : ℕ) → v < count_in f → waits lists.queue v ≡ false → node_active answer f.program.now f.graph.now (new_arcs f) (old_arcs f) v r ≡ false
+    active v low idle =
+        subst (λ (b : Bool). node_active answer f.program.now f.graph.now (new_arcs f) (old_view b f.rows.now.by_head f.old.now) v r ≡ false) (sym one)
+        (subst (λ n. node_active answer f.program.now f.graph.now (new_arcs f) (Some (arcs_in f.rows.now.by_head f.old.now)) v n ≡ false) (sym at0)
+        (idle-start answer f.program.now f.graph.now f.rows.now.by_head f.rows.now.by_tail f.old.now f.new.now f.by_degree od nd lists.watched.items lists.queue frame.rows.same frame.rows.arcs frame.degree
+        (degrees-at f.program.now f.graph.now (arcs_in f.rows.now.by_head f.old.now) lists.old_degrees.items od eo (u.old_now one).degrees_are)
+        (degrees-at f.program.now f.graph.now (new_arcs f) lists.new_degrees.items nd en u.new_now.degrees_are)
+        (u.watched_are one) f.turned.now (frame.turned one) heads readers v idle))
+
+    untouched : (v : ℕ) → was_touched_at answer f r v ≡ false
+    untouched v =
+        ap (λ (b : Bool). b || touched_before answer f.program.now f.graph.now (new_arcs f) (old_arcs f) v r) one
+        ∙ ap (λ n. touched_before answer f.program.now f.graph.now (new_arcs f) (old_arcs f) v n) at0
+
+  -- ---- later
+
+  module _ (k : ℕ) (at : r ≡ suc k) (lists : Lists) (od nd : List ℕ) (w touched : List Bool) (on ob nn nb : List Val) (bs : List Change)
+      (u : StandAt answer f r (was_touched_at answer f r) lists) (below : r < f.limit)
+      (eod : od ≡ lists.old_degrees.items) (end : nd ≡ lists.new_degrees.items) (ew : w ≡ lists.watched.items) (et : touched ≡ lists.touched.items)
+      (eon : on ≡ lists.old_now.items) (eob : ob ≡ lists.old_before.items) (enn : nn ≡ lists.new_now.items) (enb : nb ≡ lists.new_before.items)
+      (before : HasChanges (count_in f) (lone_at answer f k) (lone_at answer f r) bs)
+      (heard_old : All (λ c. IsHeard f.first f.rows.now.by_tail f.old.now f.new.now f.by_degree od nd w on ob nn nb lists.queue c.node.0) (get_or f.history.now.changes k []))
+      (heard_new : All (λ c. IsHeard f.first f.rows.now.by_tail f.old.now f.new.now f.by_degree od nd w on ob nn nb lists.queue c.node.0) bs) where
+    more : suc k ≡ k + 1
+    more = omega arith
+
+    less : r - 1 ≡ k
+    less = omega (arith, at)
+
+    -- the values in the view before stay where no change is listed
+    old-stays : f.first ≡ false → (v : ℕ) → v < count_in f → is_changed v (get_or f.history.now.changes k []) ≡ false
+        → value_at (lone answer f.program.now f.graph.now (arcs_in f.rows.now.by_head f.old.now) (suc k)) v ≡ value_at (lone answer f.program.now f.graph.now (arcs_in f.rows.now.by_head f.old.now) k) v
+    old-stays one v low e =
+        let had : HasChanges (count_in f) (lone_in answer f.program.now f.graph.now (old_arcs f) k) (lone_in answer f.program.now f.graph.now (old_arcs f) (k + 1)) (get_or f.history.now.changes k []) = frame.history.changes k (omega (arith, at, below)) in
+        let still = subst (λ (b : Bool). HasChanges (count_in f) (lone_in answer f.program.now f.graph.now (old_view b f.rows.now.by_head f.old.now) k) (lone_in answer f.program.now f.graph.now (old_view b f.rows.now.by_head f.old.now) (k + 1)) (get_or f.history.now.changes k [])) one had in
+        ap (λ n. value_at (lone answer f.program.now f.graph.now (arcs_in f.rows.now.by_head f.old.now) n) v) more
+        ∙ unchanged-at (count_in f) (lone answer f.program.now f.graph.now (arcs_in f.rows.now.by_head f.old.now) k) (lone answer f.program.now f.graph.now (arcs_in f.rows.now.by_head f.old.now) (k + 1)) (get_or f.history.now.changes k []) v low still e
+
+    new-stays : (v : ℕ) → v < count_in f → is_changed v bs ≡ false → value_at (lone_at answer f (suc k)) v ≡ value_at (lone_at answer f k) v
+    new-stays v low e = ap (λ n. value_at (lone_at answer f n) v) (sym at) ∙ unchanged-at (count_in f) (lone_at answer f k) (lone_at answer f r) bs v low before e
+
+    tell : f.first ≡ false → (v : ℕ) → v < count_in f → Stays answer f.program.now f.graph.now f.rows.now.by_head f.old.now f.new.now k v ⊎ IsHeard false f.rows.now.by_tail f.old.now f.new.now f.by_degree od nd w on ob nn nb lists.queue v
+    tell one v low = elim (cases_Bool (is_changed v (get_or f.history.now.changes k []))) [
+      | inl t ↦ inr (plain (changed-at (λ n. IsHeard f.first f.rows.now.by_tail f.old.now f.new.now f.by_degree od nd w on ob nn nb lists.queue n) v (get_or f.history.now.changes k []) heard_old t))
+      | inr e ↦ elim (cases_Bool (is_changed v bs)) [
+        | inl t ↦ inr (plain (changed-at (λ n. IsHeard f.first f.rows.now.by_tail f.old.now f.new.now f.by_degree od nd w on ob nn nb lists.queue n) v bs heard_new t))
+        | inr g ↦ inl (new-stays v low g, old-stays one v low e)
+      ]
+    ] where
+      plain : IsHeard f.first f.rows.now.by_tail f.old.now f.new.now f.by_degree od nd w on ob nn nb lists.queue v → IsHeard false f.rows.now.by_tail f.old.now f.new.now f.by_degree od nd w on ob nn nb lists.queue v
+      plain h = subst (λ (b : Bool). IsHeard b f.rows.now.by_tail f.old.now f.new.now f.by_degree od nd w on ob nn nb lists.queue v) one h
+
+    active-next : f.first ≡ false → (v : ℕ) → v < count_in f → waits lists.queue v ≡ false → node_active answer f.program.now f.graph.now (new_arcs f) (Some (arcs_in f.rows.now.by_head f.old.now)) v (suc k) ≡ false
+    active-next one v low idle =
+        idle-later answer f.program.now f.graph.now f.rows.now.by_head f.rows.now.by_tail f.old.now f.new.now f.by_degree od nd w lists.queue frame.rows.same frame.rows.arcs frame.degree
+        (degrees-at f.program.now f.graph.now (arcs_in f.rows.now.by_head f.old.now) lists.old_degrees.items od eod (u.old_now one).degrees_are)
+        (degrees-at f.program.now f.graph.now (new_arcs f) lists.new_degrees.items nd end u.new_now.degrees_are)
+        (subst (λ (bits : List Bool). All (λ a. IsTurned f.old.now f.new.now a → get_or bits a.tail.0 false ≡ true) f.rows.now.by_head) (sym ew) (u.watched_are one))
+        k on ob nn nb
+        (eon ∙ (u.old_now one).values_are ∙ ap (λ n. lone answer f.program.now f.graph.now (arcs_in f.rows.now.by_head f.old.now) n) at)
+        (eob ∙ (u.old_before one).values_are ∙ ap (λ n. lone answer f.program.now f.graph.now (arcs_in f.rows.now.by_head f.old.now) n) less)
+        (enn ∙ u.new_now.values_are ∙ ap (λ n. lone_at answer f n) at)
+        (enb ∙ u.new_before.values_are ∙ ap (λ n. lone_at answer f n) less)
+        (tell one) v low idle
+
+    -- where there's no view before
+    itself-waits : f.first ≡ true → (v : ℕ) → is_changed v bs ≡ true → waits lists.queue v ≡ true
+    itself-waits one v t = elim (changed-at (λ n. IsHeard f.first f.rows.now.by_tail f.old.now f.new.now f.by_degree od nd w on ob nn nb lists.queue n) v bs heard_new t).itself [
+      | inl a ↦ absurd (clash f.first a.0 one)
+      | inr h ↦ h
+    ]
+
+    readers-wait : f.first ≡ true → (v : ℕ) → is_changed v bs ≡ true → AllHear f.rows.now.by_head lists.queue v
+    readers-wait one v t = elim (changed-at (λ n. IsHeard f.first f.rows.now.by_tail f.old.now f.new.now f.by_degree od nd w on ob nn nb lists.queue n) v bs heard_new t).readers [
+      | inl a ↦ absurd (clash f.first a.0 one)
+      | inr h ↦ All-permutation (λ (a : Arc). a.tail.0 ≡ v → waits lists.queue a.head.0 ≡ true) f.rows.now.by_tail f.rows.now.by_head (IsPermutation-sym f.rows.now.by_head f.rows.now.by_tail frame.rows.same) h
+    ]
+
+    active-first : f.first ≡ true → (v : ℕ) → v < count_in f → waits lists.queue v ≡ false → node_active answer f.program.now f.graph.now (new_arcs f) None v (suc k) ≡ false
+    active-first one v low idle = calm-first answer f.program.now f.graph.now f.rows.now.by_head f.new.now k v
+        (elim (cases_Bool (is_changed v bs)) [
+          | inl t ↦ absurd (clash (waits lists.queue v) idle (itself-waits one v t))
+          | inr e ↦ new-stays v low e
+        ])
+        (λ i d within here. elim (cases_Bool (is_changed (get_or f.rows.now.by_head i d).tail.0 bs)) [
+          | inl t ↦ absurd (clash (waits lists.queue v) idle (subst (λ n. waits lists.queue n ≡ true) here (readers-wait one (get_or f.rows.now.by_head i d).tail.0 t i d within refl)))
+          | inr e ↦ new-stays (get_or f.rows.now.by_head i d).tail.0 (frame.rows.arcs i d within).tail e
+        ])
+
+    active-later : (v : ℕ) → v < count_in f → waits lists.queue v ≡ false → node_active answer f.program.now f.graph.now (new_arcs f) (old_arcs f) v r ≡ false
+    active-later v low idle =
+        subst (λ n. node_active answer f.program.now f.graph.now (new_arcs f) (old_arcs f) v n ≡ false) (sym at) (elim (cases_Bool f.first) [
+          | inl one ↦ subst (λ (b : Bool). node_active answer f.program.now f.graph.now (new_arcs f) (old_view b f.rows.now.by_head f.old.now) v (suc k) ≡ false) (sym one) (active-first one v low idle)
+          | inr one ↦ subst (λ (b : Bool). node_active answer f.program.now f.graph.now (new_arcs f) (old_view b f.rows.now.by_head f.old.now) v (suc k) ≡ false) (sym one) (active-next one v low idle)
+        ])
+
+    -- the marks of the view before
+    marks-are : (v : ℕ) → v < count_in f → is_listed v (get_or f.history.now.marks k []) ≡ marked_before answer f r v
+    marks-are v low = (frame.history.marks k (omega (arith, at, below))).listed v low ∙ ap (λ n. node_marked answer f.program.now f.graph.now (old_arcs f) v n) (omega (arith, at))
+
+    pub later-calm : All (λ n. get_or touched n.0 false ≡ true → waits lists.queue n.0 ≡ true) (get_or f.history.now.marks k []) → AreCalm answer f r lists
+    later-calm wait = calm-by answer f r lists active-later (λ v low idle marked was. clash (waits lists.queue v) idle
+        (listed-at (λ n. get_or touched n false ≡ true → waits lists.queue n ≡ true) v (get_or f.history.now.marks k []) wait (marks-are v low ∙ marked) (ap (λ (bits : List Bool). get_or bits v false) et ∙ u.touched_are v low ∙ was)))
+
+    pub later-shown : ((v : ℕ) → get_or lists.marked.items v false ≡ is_listed v (get_or f.history.now.marks k [])) → AreShown answer f r lists
+    later-shown h = record { shown = λ v low later. h v ∙ marks-are v low }
+
+-- all are heard still when more wait
+pub all-still : (first : Bool) (arcs : List Arc) (old new : List Bool) (by : Bool) (od nd : List ℕ) (w : List Bool) (on ob nn nb : List Val) (q q' : Queue) (cs : List Change) → StillWait q q'
+    → All (λ c. IsHeard first arcs old new by od nd w on ob nn nb q c.node.0) cs → All (λ c. IsHeard first arcs old new by od nd w on ob nn nb q' c.node.0) cs
+all-still first arcs old new by od nd w on ob nn nb q q' cs s all = λ i d low. heard-still first arcs old new by od nd w on ob nn nb q q' (get_or cs i d).node.0 s (all i d low)

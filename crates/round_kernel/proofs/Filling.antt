@@ -1,0 +1,176 @@
+-- When all who may be active wait, those that don't are calm.
+use Rattle.std.proofs.Common.{◌≡◌, ◌∙◌, ◌<◌, ◌∷◌, [], zero, suc, sym, ap, subst, refl, ℕ, Bool, true, false, List, Some, length, get_or, arith, inl, inr}
+use Rattle.std.specs.Prelude.{All, Contains, ◌⊎◌, ◌||◌, ◌==◌, not}
+use Rattle.std.proofs.lemmas.Bool.{cases_Bool, eqb-true, eq-eqb}
+use Rattle.std.proofs.lemmas.List.Elements.{All-head, All-tail, All-weaker, All-cons, All-contains}
+use Rattle.std.specs.List.Sorted.{IsPermutation}
+use Rattle.std.proofs.lemmas.List.Sorted.{All-permutation, IsPermutation-sym}
+use Rattle.graph_model.specs.declared.value.Val.{Val}
+use Rattle.graph_model.specs.declared.number.NodeNo.{NodeNo}
+use Rattle.graph_model.specs.GraphData.{GraphData}
+use Rattle.vertex_lang.specs.declared.arc.Arc.{Arc}
+use Rattle.vertex_lang.specs.declared.program.Program.{Program}
+use Rattle.vertex_lang.specs.Arcs.{IsArc, outdeg}
+use Rattle.vertex_lang.specs.Expressions.{Answer}
+use Rattle.vertex_lang.specs.Lone.{same_value}
+use Rattle.vertex_lang.specs.Rounds.{value_at, lone}
+use Rattle.vertex_lang.specs.Ignoring.{IgnoresOutdeg}
+use Rattle.lone_work.specs.Work.{node_active}
+use Rattle.vertex_lang.specs.GatherLaws.{values-exact}
+use Rattle.round_kernel.specs.declared.history.Change.{Change}
+use Rattle.round_kernel.specs.declared.queue.Queue.{Queue}
+use Rattle.round_kernel.specs.Sides.{in_view, arcs_in, AreDegrees, IsTurned}
+use Rattle.round_kernel.specs.Histories.{is_changed, is_listed, HasChanges}
+use Rattle.round_kernel.specs.Queues.{waits, StillWait, DegreeAgrees, ValuesAgree, AllHear, IsHeard}
+use Rattle.round_kernel.proofs.Waiting.{clash}
+use Rattle.round_kernel.proofs.Calm.{Stays, Same, SameDegree, calm-later, calm-start, same-degree, same-or-turned}
+
+-- what holds at each change holds at each changed node
+pub changed-at : (P : ℕ → Type 0) (u : ℕ) (cs : List Change) → All (λ c. P c.node.0) cs → is_changed u cs ≡ true → P u
+changed-at P u [] all e = absurd (clash false refl e)
+changed-at P u (c ∷ cs) all e = elim (cases_Bool (c.node.0 == u)) [
+  | inl at ↦ subst P (eqb-true c.node.0 u at) (All-head (λ d. P d.node.0) c cs all)
+  | inr off ↦ changed-at P u cs (All-tail (λ d. P d.node.0) c cs all) (second (c.node.0 == u) (is_changed u cs) off e)
+] where
+  second : (a b : Bool) → a ≡ false → (a || b) ≡ true → b ≡ true
+  second true b f t = absurd cc
+  second false b f t = t
+
+pub listed-at : (P : ℕ → Type 0) (u : ℕ) (ns : List NodeNo) → All (λ n. P n.0) ns → is_listed u ns ≡ true → P u
+listed-at P u [] all e = absurd (clash false refl e)
+listed-at P u (n ∷ ns) all e = elim (cases_Bool (n.0 == u)) [
+  | inl at ↦ subst P (eqb-true n.0 u at) (All-head (λ d. P d.0) n ns all)
+  | inr off ↦ listed-at P u ns (All-tail (λ d. P d.0) n ns all) (second (n.0 == u) (is_listed u ns) off e)
+] where
+  second : (a b : Bool) → a ≡ false → (a || b) ≡ true → b ≡ true
+  second true b f t = absurd cc
+  second false b f t = t
+
+-- a node that isn't in the list of changes keeps its value
+pub unchanged-at : (count : ℕ) (before after : List Val) (cs : List Change) (u : ℕ) → u < count → HasChanges count before after cs → is_changed u cs ≡ false → value_at after u ≡ value_at before u
+unchanged-at count before after cs u low h e = values-exact.one (value_at after u) (value_at before u) (not-told (same_value (value_at after u) (value_at before u)) (sym (h.listed u low) ∙ e)) where
+  not-told : (b : Bool) → not b ≡ false → b ≡ true
+  not-told true f = refl
+  not-told false f = absurd cc
+
+pub heard-still : (first : Bool) (arcs : List Arc) (old new : List Bool) (by : Bool) (od nd : List ℕ) (w : List Bool) (on ob nn nb : List Val) (q q' : Queue) (u : ℕ) → StillWait q q'
+    → IsHeard first arcs old new by od nd w on ob nn nb q u → IsHeard first arcs old new by od nd w on ob nn nb q' u
+heard-still first arcs old new by od nd w on ob nn nb q q' u s h = record {
+  itself = elim h.itself [ inl a ↦ inl a | inr a ↦ inr (s.still u a) ];
+  readers = elim h.readers [ inl a ↦ inl a | inr a ↦ inr (All-weaker (λ (x : Arc). x.tail.0 ≡ u → waits q x.head.0 ≡ true) (λ (x : Arc). x.tail.0 ≡ u → waits q' x.head.0 ≡ true) (λ x g e. s.still x.head.0 (g e)) arcs a) ];
+  turned = elim h.turned [ inl a ↦ inl a | inr a ↦ inr (All-weaker (λ (x : Arc). x.tail.0 ≡ u → IsTurned old new x → waits q x.head.0 ≡ true) (λ (x : Arc). x.tail.0 ≡ u → IsTurned old new x → waits q' x.head.0 ≡ true) (λ x g e t. s.still x.head.0 (g e t)) arcs a) ];
+}
+
+-- no arc from a node is turned, or one is
+any-turned : (old new : List Bool) (u : ℕ) (all : List Arc) → All (λ a. a.tail.0 ≡ u → in_view old a ≡ in_view new a) all ⊎ ((i : ℕ) × (i < length all) × ((d : Arc) → (get_or all i d).tail.0 ≡ u) × ((d : Arc) → IsTurned old new (get_or all i d)))
+any-turned old new u [] = inl (λ i d low. absurd (omega arith))
+any-turned old new u (a ∷ all) = elim (any-turned old new u all) [
+  | inr found ↦ inr (suc (found.0), omega (arith, found.1), found.2, found.3)
+  | inl none ↦ elim (cases_Bool (a.tail.0 == u)) [
+    | inr off ↦ inl (All-cons (λ b. b.tail.0 ≡ u → in_view old b ≡ in_view new b) a all (λ e. absurd (clash (a.tail.0 == u) off (eq-eqb a.tail.0 u e))) none)
+    | inl at ↦ elim (same-bits (in_view old a) (in_view new a)) [
+      | inl e ↦ inl (All-cons (λ b. b.tail.0 ≡ u → in_view old b ≡ in_view new b) a all (λ t. e) none)
+      | inr ne ↦ inr (zero, omega arith, λ d. eqb-true a.tail.0 u at, λ d. ne)
+    ]
+  ]
+] where
+  same-bits : (a b : Bool) → (a ≡ b) ⊎ (a ≡ b → ⊥)
+  same-bits true true = inl refl
+  same-bits true false = inr (λ e. absurd cc)
+  same-bits false true = inr (λ e. absurd cc)
+  same-bits false false = inl refl
+
+module _ (answer : Answer) (p : Program) (graph : GraphData) (all tails : List Arc) (old new : List Bool) (by : Bool) (od nd : List ℕ) (watched : List Bool) (q : Queue)
+    (perm : IsPermutation all tails) (arcs : All (IsArc graph) all) (degree : by ≡ false → IgnoresOutdeg p.send)
+    (od-are : AreDegrees p graph (arcs_in all old) od) (nd-are : AreDegrees p graph (arcs_in all new) nd)
+    (watched-are : All (λ a. IsTurned old new a → get_or watched a.tail.0 false ≡ true) all) where
+  same-of : (u : ℕ) → u < length graph.ids → DegreeAgrees by od nd u → SameDegree answer p graph all old new u
+  same-of u low d = elim d [
+    | inl e ↦ inr (degree e)
+    | inr e ↦ elim nd-are [
+      | inl ignores ↦ inr ignores
+      | inr n ↦ elim od-are [
+        | inl ignores ↦ inr ignores
+        | inr o ↦ inl (sym (n u low) ∙ sym e ∙ o u low)
+      ]
+    ]
+  ]
+
+  -- all arcs from a node are heard, in whatever order they stand
+  heard-all : (u : ℕ) → AllHear tails q u → AllHear all q u
+  heard-all u h = All-permutation (λ (a : Arc). a.tail.0 ≡ u → waits q a.head.0 ≡ true) tails all (IsPermutation-sym all tails perm) h
+
+  turned-all : (u : ℕ) → All (λ a. a.tail.0 ≡ u → IsTurned old new a → waits q a.head.0 ≡ true) tails → All (λ a. a.tail.0 ≡ u → IsTurned old new a → waits q a.head.0 ≡ true) all
+  turned-all u h = All-permutation (λ (a : Arc). a.tail.0 ≡ u → IsTurned old new a → waits q a.head.0 ≡ true) tails all (IsPermutation-sym all tails perm) h
+
+  module _ (k : ℕ) (on ob nn nb : List Val) (on-are : on ≡ lone answer p graph (arcs_in all old) (suc k)) (ob-are : ob ≡ lone answer p graph (arcs_in all old) k) (nn-are : nn ≡ lone answer p graph (arcs_in all new) (suc k)) (nb-are : nb ≡ lone answer p graph (arcs_in all new) k)
+      (tell : (u : ℕ) → u < length graph.ids → Stays answer p graph all old new k u ⊎ IsHeard false tails old new by od nd watched on ob nn nb q u) where
+    same-values : (u : ℕ) → ValuesAgree on ob nn nb u → Same answer p graph all old new k u
+    same-values u h = (
+      sym (ap (λ (vs : List Val). value_at vs u) nn-are) ∙ sym h.0 ∙ ap (λ (vs : List Val). value_at vs u) on-are,
+      sym (ap (λ (vs : List Val). value_at vs u) nb-are) ∙ sym h.1 ∙ ap (λ (vs : List Val). value_at vs u) ob-are,
+    )
+
+    own-calm : (v : ℕ) → v < length graph.ids → waits q v ≡ false → Stays answer p graph all old new k v ⊎ Same answer p graph all old new k v
+    own-calm v low idle = elim (tell v low) [
+      | inl s ↦ inl s
+      | inr h ↦ elim h.itself [ inl a ↦ inr (same-values v a.1) | inr w ↦ absurd (clash (waits q v) idle w) ]
+    ]
+
+    arc-calm : (v i : ℕ) (d : Arc) → i < length all → waits q v ≡ false → (get_or all i d).head.0 ≡ v
+        → Stays answer p graph all old new k (get_or all i d).tail.0 ⊎ (Same answer p graph all old new k (get_or all i d).tail.0 × (in_view old (get_or all i d) ≡ in_view new (get_or all i d)) × SameDegree answer p graph all old new (get_or all i d).tail.0)
+    arc-calm v i d low idle at =
+        let a = get_or all i d in
+        let arc : IsArc graph a = arcs i d low in
+        elim (tell a.tail.0 arc.tail) [
+          | inl s ↦ inl s
+          | inr h ↦ elim h.readers [
+            | inr hear ↦ absurd (clash (waits q v) idle (subst (λ n. waits q n ≡ true) at (heard-all a.tail.0 hear i d low refl)))
+            | inl agree ↦ inr (
+              same-values a.tail.0 agree.1,
+              same-or-turned (in_view old a) (in_view new a) (λ turned. elim h.turned [
+                | inl off ↦ clash (get_or watched a.tail.0 false) off (watched-are i d low turned)
+                | inr hear ↦ clash (waits q v) idle (subst (λ n. waits q n ≡ true) at (turned-all a.tail.0 hear i d low refl turned))
+              ]),
+              same-of a.tail.0 arc.tail agree.2,
+            )
+          ]
+        ]
+
+    -- a node that doesn't wait isn't active in a later round
+    pub idle-later : (v : ℕ) → v < length graph.ids → waits q v ≡ false → node_active answer p graph (arcs_in all new) (Some (arcs_in all old)) v (suc k) ≡ false
+    idle-later v low idle = calm-later answer p graph all old new k v (own-calm v low idle) (λ i d within at. arc-calm v i d within idle at)
+
+  -- and not in round 0, where all heads of turned arcs wait
+  pub idle-start : (turned : List Arc) → All (λ a. IsTurned old new a → Contains turned a) all → All (λ a. waits q a.head.0 ≡ true) turned → All (λ t. DegreeAgrees by od nd t.tail.0 ⊎ AllHear tails q t.tail.0) turned
+      → (v : ℕ) → waits q v ≡ false → node_active answer p graph (arcs_in all new) (Some (arcs_in all old)) v 0 ≡ false
+  idle-start turned told heads readers v idle = calm-start answer p graph all old new v (λ i d low at.
+      let a = get_or all i d in
+      let arc : IsArc graph a = arcs i d low in
+      let still : in_view old a ≡ in_view new a = same-or-turned (in_view old a) (in_view new a) (λ t. clash (waits q v) idle (subst (λ n. waits q n ≡ true) at (All-contains (λ (b : Arc). waits q b.head.0 ≡ true) turned a heads (told i d low t)))) in
+      (still, degree-at a i d low at refl arc)) where
+        degree-at : (a : Arc) (i : ℕ) (d : Arc) → i < length all → (get_or all i d).head.0 ≡ v → a ≡ get_or all i d → IsArc graph a → SameDegree answer p graph all old new a.tail.0
+        degree-at a i d low at same arc = elim (any-turned old new a.tail.0 all) [
+          | inl none ↦ inl (same-degree old new a.tail.0 all none)
+          | inr found ↦
+              let t = get_or all found.0 a in
+              elim (All-contains (λ (b : Arc). DegreeAgrees by od nd b.tail.0 ⊎ AllHear tails q b.tail.0) turned t readers (told found.0 a found.1 (found.3 a))) [
+                | inl agrees ↦ same-of a.tail.0 arc.tail (subst (λ n. DegreeAgrees by od nd n) (found.2 a) agrees)
+                | inr hear ↦ absurd (clash (waits q v) idle (subst (λ n. waits q n ≡ true) at (heard-all t.tail.0 hear i d low (ap (λ (b : Arc). b.tail.0) (sym same) ∙ sym (found.2 a)))))
+              ]
+        ]
+
+-- ---- how a changed node is heard
+
+module _ (first : Bool) (arcs : List Arc) (old new : List Bool) (by : Bool) (od nd : List ℕ) (w : List Bool) (on ob nn nb : List Val) (q : Queue) (u : ℕ) where
+  turned-of : AllHear arcs q u → All (λ a. a.tail.0 ≡ u → IsTurned old new a → waits q a.head.0 ≡ true) arcs
+  turned-of h = All-weaker (λ (a : Arc). a.tail.0 ≡ u → waits q a.head.0 ≡ true) (λ (a : Arc). a.tail.0 ≡ u → IsTurned old new a → waits q a.head.0 ≡ true) (λ a g e t. g e) arcs h
+
+  pub heard-fully : waits q u ≡ true → AllHear arcs q u → IsHeard first arcs old new by od nd w on ob nn nb q u
+  heard-fully e h = record { itself = inr e; readers = inr h; turned = inr (turned-of h) }
+
+  pub heard-degree : first ≡ false → ValuesAgree on ob nn nb u → AllHear arcs q u → IsHeard first arcs old new by od nd w on ob nn nb q u
+  heard-degree f v h = record { itself = inl (f, v); readers = inr h; turned = inr (turned-of h) }
+
+  pub heard-turned : first ≡ false → ValuesAgree on ob nn nb u → DegreeAgrees by od nd u → (get_or w u false ≡ false) ⊎ All (λ a. a.tail.0 ≡ u → IsTurned old new a → waits q a.head.0 ≡ true) arcs → IsHeard first arcs old new by od nd w on ob nn nb q u
+  heard-turned f v d t = record { itself = inl (f, v); readers = inl (f, v, d); turned = t }

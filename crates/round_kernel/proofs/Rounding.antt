@@ -1,0 +1,172 @@
+-- What a round makes: what was found at the touched nodes, and what is copied from the view before at the others.
+use Rattle.std.proofs.Common.{Vec, Global, ◌≡◌, ◌∙◌, ◌<◌, ◌+◌, ◌-◌, ◌++◌, ◌∷◌, [], suc, sym, ap, refl, ℕ, Bool, true, false, List, Option, Some, None, length, get_or, filter, arith}
+use Rattle.std.specs.Prelude.{◌&&◌, ◌||◌, ◌==◌, not, if◌then◌else◌}
+use Rattle.std.specs.List.{list_any}
+use Rattle.std.proofs.lemmas.Bool.{eqb-true}
+use Rattle.std.proofs.lemmas.List.Folds.{list_any-append}
+use Rattle.std.proofs.lemmas.List.Elements.{All-append, All-filter, filter_passes}
+use Rattle.graph_model.specs.declared.value.Val.{Val}
+use Rattle.graph_model.specs.declared.number.NodeNo.{NodeNo}
+use Rattle.graph_model.specs.GraphData.{GraphData}
+use Rattle.vertex_lang.specs.declared.arc.Arc.{Arc}
+use Rattle.vertex_lang.specs.declared.program.Program.{Program}
+use Rattle.vertex_lang.specs.Expressions.{Answer}
+use Rattle.vertex_lang.specs.Lone.{same_value}
+use Rattle.vertex_lang.specs.Rounds.{value_at, lone}
+use Rattle.lone_work.specs.Work.{node_touched, touched_before, lone_in}
+use Rattle.lone_work.specs.WorkLaws.{first-touched, untouched-value, untouched-mark}
+use Rattle.round_kernel.specs.declared.history.Change.{Change}
+use Rattle.round_kernel.specs.declared.round.Frame.{Frame}
+use Rattle.round_kernel.specs.declared.round.Lists.{Lists}
+use Rattle.round_kernel.specs.Sides.{arcs_in, AreSent, IsSized}
+use Rattle.round_kernel.specs.Histories.{HasNodes, HasChanges, is_changed, is_listed}
+use Rattle.round_kernel.specs.Rounds.{old_view}
+use Rattle.round_kernel.specs.Frames.{StandAt, HasSome, count_in, lone_at, new_arcs, old_arcs, touched_at, marked_at, marked_before, was_touched_at, changes_at}
+use Rattle.round_kernel.proofs.Waiting.{clash}
+
+-- ---- lists of which the touched nodes are left out
+
+both-or : (b e c l : Bool) → (e ≡ true → b ≡ c) → ((b && e) || (c && l)) ≡ (c && (e || l))
+both-or true true true l h = refl
+both-or true true false l h = absurd (clash false refl (sym (h refl)))
+both-or false true true l h = absurd (clash false refl (h refl))
+both-or false true false l h = refl
+both-or true false c l h = refl
+both-or false false c l h = refl
+
+module _ {X : Type 0} (key : X → ℕ) (t : List Bool) (v : ℕ) where
+  any-if : (b : Bool) (x : X) (rest : List X) → list_any (λ y. key y == v) (if b then x ∷ rest else rest) ≡ ((b && (key x == v)) || list_any (λ y. key y == v) rest)
+  any-if true x rest = refl
+  any-if false x rest = refl
+
+  any-untouched : (xs : List X) → list_any (λ y. key y == v) (filter (λ y. not (get_or t (key y) false)) xs) ≡ (not (get_or t v false) && list_any (λ y. key y == v) xs)
+  any-untouched [] = none (not (get_or t v false)) where
+    none : (b : Bool) → false ≡ (b && false)
+    none true = refl
+    none false = refl
+  any-untouched (x ∷ xs) =
+      any-if (not (get_or t (key x) false)) x (filter (λ y. not (get_or t (key y) false)) xs)
+      ∙ ap (λ (b : Bool). (not (get_or t (key x) false) && (key x == v)) || b) (any-untouched xs)
+      ∙ both-or (not (get_or t (key x) false)) (key x == v) (not (get_or t v false)) (list_any (λ y. key y == v) xs) (λ e. ap (λ n. not (get_or t n false)) (eqb-true (key x) v e))
+
+-- what is found where a node is touched, and what is copied where it isn't
+mixed : (t m b : Bool) → (t ≡ false → m ≡ b) → ((t && m) || (not t && b)) ≡ m
+mixed true true b h = refl
+mixed true false b h = refl
+mixed false m b h = sym (h refl)
+
+not-told : (b : Bool) → not b ≡ true → b ≡ false
+not-told true e = absurd (clash false refl e)
+not-told false e = refl
+
+-- a node that isn't touched has the values of the view before
+module _ (answer : Answer) (p : Program) (graph : GraphData) (new : List Arc) (v r : ℕ) where
+  pub untouched-two : (old : Option (List Arc)) → v < length graph.ids → node_touched answer p graph new old v r ≡ false
+      → (value_at (lone answer p graph new (r + 1)) v ≡ value_at (lone_in answer p graph old (r + 1)) v) × (value_at (lone answer p graph new r) v ≡ value_at (lone_in answer p graph old r) v)
+  untouched-two None low e = absurd (clash (node_touched answer p graph new None v r) e (first-touched answer p graph new v r))
+  untouched-two (Some old) low e = (untouched-value answer p graph new old v r (r + 1) low e (omega arith), untouched-value answer p graph new old v r r low e (omega arith))
+
+module _ (answer : Answer) (f : Frame) (r : ℕ) (t : List Bool) (told : (v : ℕ) → v < count_in f → get_or t v false ≡ touched_at answer f r v) where
+  pub marks-all : (found old : List NodeNo) → HasNodes (count_in f) (λ v. touched_at answer f r v && marked_at answer f r v) found → HasNodes (count_in f) (marked_before answer f r) old
+      → HasNodes (count_in f) (marked_at answer f r) (found ++ filter (λ n. not (get_or t n.0 false)) old)
+  marks-all found old a b = record {
+    within = All-append (λ (n : NodeNo). n.0 < count_in f) found (filter (λ n. not (get_or t n.0 false)) old) a.within (All-filter (λ (n : NodeNo). not (get_or t n.0 false)) (λ (n : NodeNo). n.0 < count_in f) old b.within);
+    listed = λ v low.
+        list_any-append (λ (n : NodeNo). n.0 == v) found (filter (λ n. not (get_or t n.0 false)) old)
+        ∙ ap (λ (c : Bool). c || is_listed v (filter (λ n. not (get_or t n.0 false)) old)) (a.listed v low)
+        ∙ ap (λ (c : Bool). (touched_at answer f r v && marked_at answer f r v) || c) (any-untouched (λ (n : NodeNo). n.0) t v old ∙ ap (λ (c : Bool). not c && is_listed v old) (told v low) ∙ ap (λ (c : Bool). not (touched_at answer f r v) && c) (b.listed v low))
+        ∙ mixed (touched_at answer f r v) (marked_at answer f r v) (marked_before answer f r v) (λ e. untouched-mark answer f.program.now f.graph.now (new_arcs f) (old_arcs f) v r e);
+  }
+
+  pub changes-all : (found old : List Change) → HasSome answer f r (touched_at answer f r) found
+      → HasChanges (count_in f) (lone_in answer f.program.now f.graph.now (old_arcs f) r) (lone_in answer f.program.now f.graph.now (old_arcs f) (r + 1)) old
+      → HasChanges (count_in f) (lone_at answer f r) (lone_at answer f (r + 1)) (found ++ filter (λ c. not (get_or t c.node.0 false)) old)
+  changes-all found old a b = record {
+    within = All-append (λ (c : Change). c.node.0 < count_in f) found rest a.within (All-filter test (λ (c : Change). c.node.0 < count_in f) old b.within);
+    values = All-append (λ (c : Change). c.value ≡ value_at (lone_at answer f (r + 1)) c.node.0) found rest a.values (λ i d low. copied (get_or rest i d)
+        (All-filter test (λ (c : Change). c.node.0 < count_in f) old b.within i d low)
+        (All-filter test (λ (c : Change). c.value ≡ value_at (lone_in answer f.program.now f.graph.now (old_arcs f) (r + 1)) c.node.0) old b.values i d low)
+        (not-told (get_or t (get_or rest i d).node.0 false) (filter_passes test old i d low)));
+    listed = λ v low.
+        list_any-append (λ (c : Change). c.node.0 == v) found rest
+        ∙ ap (λ (c : Bool). c || is_changed v rest) (a.listed v low)
+        ∙ ap (λ (c : Bool). (touched_at answer f r v && changes_at answer f r v) || c) (any-untouched (λ (c : Change). c.node.0) t v old ∙ ap (λ (c : Bool). not c && is_changed v old) (told v low) ∙ ap (λ (c : Bool). not (touched_at answer f r v) && c) (b.listed v low))
+        ∙ mixed (touched_at answer f r v) (changes_at answer f r v) (not (same_value (value_at (lone_in answer f.program.now f.graph.now (old_arcs f) (r + 1)) v) (value_at (lone_in answer f.program.now f.graph.now (old_arcs f) r) v))) (λ e.
+        let two = untouched-two answer f.program.now f.graph.now (new_arcs f) v r (old_arcs f) low e in
+        ap (λ (x : Val). not (same_value x (value_at (lone_at answer f r) v))) two.0 ∙ ap (λ (x : Val). not (same_value (value_at (lone_in answer f.program.now f.graph.now (old_arcs f) (r + 1)) v) x)) two.1);
+  } where
+    test : Change → Bool
+    test c = not (get_or t c.node.0 false)
+
+    rest : List Change
+    rest = filter test old
+
+    copied : (c : Change) → c.node.0 < count_in f → c.value ≡ value_at (lone_in answer f.program.now f.graph.now (old_arcs f) (r + 1)) c.node.0 → get_or t c.node.0 false ≡ false → c.value ≡ value_at (lone_at answer f (r + 1)) c.node.0
+    copied c low e off = e ∙ sym (untouched-two answer f.program.now f.graph.now (new_arcs f) c.node.0 r (old_arcs f) low (sym (told c.node.0 low) ∙ off)).0
+
+-- ---- between two rounds
+
+module _ (answer : Answer) (f : Frame) (r : ℕ) where
+  touched-by : (v : ℕ) (first : Bool) → node_touched answer f.program.now f.graph.now (new_arcs f) (old_view first f.rows.now.by_head f.old.now) v r ≡ (first || touched_before answer f.program.now f.graph.now (new_arcs f) (old_view first f.rows.now.by_head f.old.now) v (r + 1))
+  touched-by v true = first-touched answer f.program.now f.graph.now (new_arcs f) v r
+  touched-by v false =
+      let more : suc r ≡ r + 1 = omega arith in
+      ap (λ n. touched_before answer f.program.now f.graph.now (new_arcs f) (Some (arcs_in f.rows.now.by_head f.old.now)) v n) more
+
+  -- touched in this round is touched before the next one
+  pub touched-on : (v : ℕ) → touched_at answer f r v ≡ was_touched_at answer f (r + 1) v
+  touched-on v = touched-by v f.first
+
+  -- the marks are cleared
+  pub at-marked : (touched : ℕ → Bool) (lists : Lists) (m : Vec Bool Global) → StandAt answer f r touched lists → length m.items ≡ count_in f → StandAt answer f r touched (record lists { marked = m })
+  at-marked touched lists m u size = record {
+    starts = u.starts;
+    new_now = u.new_now;
+    new_before = u.new_before;
+    old_now = u.old_now;
+    old_before = u.old_before;
+    old_sized = u.old_sized;
+    old_before_size = u.old_before_size;
+    touched_size = u.touched_size;
+    touched_are = u.touched_are;
+    marked_size = size;
+    watched_size = u.watched_size;
+    watched_are = u.watched_are;
+    keeps = u.keeps;
+    new_sent = u.new_sent;
+    before_sent = u.before_sent;
+    old_sent = u.old_sent;
+    queue = u.queue;
+  }
+
+  -- the values go one round on
+  pub at-next : (lists : Lists) (ob nb on nn os ns bs : Vec Val Global) → StandAt answer f r (touched_at answer f r) lists
+      → nn.items ≡ lone_at answer f (r + 1) → nb.items ≡ lone_at answer f r
+      → (f.first ≡ false → on.items ≡ lone answer f.program.now f.graph.now (arcs_in f.rows.now.by_head f.old.now) (r + 1)) → (f.first ≡ false → ob.items ≡ lone answer f.program.now f.graph.now (arcs_in f.rows.now.by_head f.old.now) r)
+      → length nn.items ≡ count_in f → length nb.items ≡ count_in f → length on.items ≡ count_in f → length ob.items ≡ count_in f
+      → AreSent lists.alike f.program.now f.graph.now lists.new_degrees.items nn.items ns.items → AreSent lists.alike f.program.now f.graph.now lists.new_degrees.items nb.items bs.items → AreSent lists.alike f.program.now f.graph.now lists.old_degrees.items on.items os.items
+      → StandAt answer f (r + 1) (was_touched_at answer f (r + 1)) (record lists { old_before = ob; new_before = nb; old_now = on; new_now = nn; old_sent = os; new_sent = ns; before_sent = bs })
+  at-next lists ob nb on nn os ns bs u enn enb eon eob snn snb son sob kns kbs kos = record {
+    starts = u.starts;
+    new_now = record { sized = sized-of f.new.now lists.new_degrees.items lists.new_now.items nn.items u.new_now.sized snn; degrees_are = u.new_now.degrees_are; values_are = enn };
+    new_before = record { sized = sized-of f.new.now lists.new_degrees.items lists.new_before.items nb.items u.new_before.sized snb; degrees_are = u.new_before.degrees_are; values_are = enb ∙ ap (λ n. lone_at answer f n) back };
+    old_now = λ one. record { sized = sized-of f.old.now lists.old_degrees.items lists.old_now.items on.items (u.old_now one).sized son; degrees_are = (u.old_now one).degrees_are; values_are = eon one };
+    old_before = λ one. record { sized = sized-of f.old.now lists.old_degrees.items lists.old_before.items ob.items (u.old_before one).sized sob; degrees_are = (u.old_before one).degrees_are; values_are = eob one ∙ ap (λ n. lone answer f.program.now f.graph.now (arcs_in f.rows.now.by_head f.old.now) n) back };
+    old_sized = sized-of f.old.now lists.old_degrees.items lists.old_now.items on.items u.old_sized son;
+    old_before_size = sob;
+    touched_size = u.touched_size;
+    touched_are = λ v low. u.touched_are v low ∙ touched-on v;
+    marked_size = u.marked_size;
+    watched_size = u.watched_size;
+    watched_are = u.watched_are;
+    keeps = u.keeps;
+    new_sent = kns;
+    before_sent = kbs;
+    old_sent = kos;
+    queue = u.queue;
+  } where
+    back : r ≡ (r + 1) - 1
+    back = omega arith
+
+    sized-of : (edges : List Bool) (degrees : List ℕ) (values again : List Val) → IsSized f.graph.now edges degrees values → length again ≡ count_in f → IsSized f.graph.now edges degrees again
+    sized-of edges degrees values again s size = record { edges_size = s.edges_size; degrees_size = s.degrees_size; degrees_small = s.degrees_small; values_size = size }

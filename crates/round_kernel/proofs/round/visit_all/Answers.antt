@@ -1,0 +1,62 @@
+use Rattle.std.proofs.Common.{◌≡◌, ◌∙◌, ◌<◌, ◌+◌, ap, sym, subst, refl, arith}
+use Rattle.std.specs.List.{range_with_len}
+use Rattle.std.proofs.lemmas.List.FromFn.{length-range_with_len}
+use Rattle.std.proofs.lemmas.List.Sums.{count_by-le-length}
+use Rattle.round_kernel.specs.declared.queue.Queue.{Queue}
+use Rattle.round_kernel.specs.declared.round.Lists.{Lists}
+use Rattle.round_kernel.specs.Queues.{waits}
+use Rattle.round_kernel.specs.Frames.{counted_at, count_in}
+use Rattle.round_kernel.proofs.Waiting.{queue-at, queue-step}
+use Rattle.round_kernel.proofs.Visiting.{done, one-most}
+use Rattle.round_kernel.proofs.Standing.{at-queue, place-of, shown-still}
+use Rattle.round_kernel.proofs.Stepping.{IsVisiting, meanwhile, visiting-start, visiting-next, waiting-was}
+use Rattle.round_kernel.proofs.round.visit_all.Goals as goal
+
+pub loop-node-init : goal.loop-node-init
+loop-node-init g c = record {
+  visiting = visiting-start g.U.Updater.answer c.args.frame c.args.round c.args.lists.now c.args.made.now c.requires.at c.requires.calm c.requires.marks c.requires.changes;
+  shown = refl;
+  calls = omega arith;
+}
+
+pub next-requires : goal.next-requires
+next-requires g c = queue-at _ _ c.loop-node.invariant.visiting.at.queue
+
+pub visit_one-requires-clause-node : goal.visit_one-requires-clause-node
+visit_one-requires-clause-node g c = omega (arith, c.in-Some.ensures.within, c.loop-node.invariant.visiting.at.queue.size)
+
+pub visit_one-requires-clause-at : goal.visit_one-requires-clause-at
+visit_one-requires-clause-at g c =
+    let answer = g.U.Updater.answer in
+    let f = c.args.frame in
+    let r = c.args.round in
+    let lists0 = c.loop-node.lists in
+    let q1 = c.next.new.self in
+    let low : c.in-Some.node.0 < count_in f = omega (arith, c.in-Some.ensures.within, c.loop-node.invariant.visiting.at.queue.size) in
+    place-of answer f r (meanwhile answer f r lists0.queue) (record lists0 { queue = q1 }) c.in-Some.node.0 low (waiting-was answer f r lists0.queue c.in-Some.node.0 c.in-Some.ensures.was)
+    (at-queue answer f r (meanwhile answer f r lists0.queue) lists0 q1 c.loop-node.invariant.visiting.at (queue-step _ lists0.queue q1 c.loop-node.invariant.visiting.at.queue c.in-Some.ensures.queue))
+    (shown-still answer f r c.args.lists.now (record lists0 { queue = q1 }) c.loop-node.invariant.shown c.requires.shown)
+
+pub overflow_add-work : goal.overflow_add-work
+overflow_add-work g c =
+    let f = c.args.frame in
+    let test = done (waits c.loop-node.lists.queue) (counted_at g.U.Updater.answer f c.args.round) in
+    omega (arith, c.loop-node.invariant.visiting.counted, count_by-le-length test (range_with_len 0 (count_in f)), length-range_with_len 0 (count_in f), c.requires.frame.few, one-most _ _ c.in_ok-work.ensures.count)
+
+pub loop-node-preserved : goal.loop-node-preserved
+loop-node-preserved g c =
+    let answer = g.U.Updater.answer in
+    let f = c.args.frame in
+    let r = c.args.round in
+    let lists0 = c.loop-node.lists in
+    let q1 = c.next.new.self in
+    let lists2 = c.visit_one.new.lists in
+    let low : c.in-Some.node.0 < count_in f = omega (arith, c.in-Some.ensures.within, c.loop-node.invariant.visiting.at.queue.size) in
+    let same : lists2.queue ≡ q1 = ap (λ (l : Lists). l.queue) c.in_ok-work.ensures.kept in
+    record {
+      visiting = subst (λ (q : Queue). IsVisiting answer f r q lists2 c.visit_one.new.made (c.loop-node.work + c.in_ok-work.field-0)) (sym same) (visiting-next answer f r lists0.queue q1 lists0 lists2 c.loop-node.made c.visit_one.new.made c.loop-node.work c.in_ok-work.field-0 c.in-Some.node refl low c.in-Some.ensures.was c.in-Some.ensures.taken
+          (queue-step _ lists0.queue q1 c.loop-node.invariant.visiting.at.queue c.in-Some.ensures.queue)
+          c.in_ok-work.ensures.kept c.in_ok-work.ensures.touched c.in_ok-work.ensures.count c.in_ok-work.ensures.marks c.in_ok-work.ensures.changes c.loop-node.invariant.visiting);
+      shown = ap (λ (l : Lists). l.marked) c.in_ok-work.ensures.kept ∙ c.loop-node.invariant.shown;
+      calls = omega (arith, c.loop-node.invariant.calls, c.in_ok-work.ensures.calls);
+    }

@@ -1,0 +1,41 @@
+use Rattle.std.proofs.Common.{◌∙◌, Bool, List, length, sym, ap, arith}
+use Rattle.std.proofs.lemmas.Bool.{true≢false}
+use Rattle.std.proofs.lemmas.List.{length-replicate}
+use Rattle.std.proofs.lemmas.List.Elements.{All-nil}
+use Rattle.graph_model.specs.declared.value.Val.{Val}
+use Rattle.vertex_lang.specs.Arcs.{IsArc}
+use Rattle.vertex_lang.specs.RoundLaws.{length-lone}
+use Rattle.round_kernel.specs.Sides.{arcs_in}
+use Rattle.round_kernel.proofs.Beginning.{none-history}
+use Rattle.round_kernel.proofs.Ending.{outcome-is}
+use Rattle.round_kernel.proofs.step.first_step.Goals as goal
+
+pub run_rounds-requires-clause-frame : goal.run_rounds-requires-clause-frame
+run_rounds-requires-clause-frame g c = record {
+  checked = c.requires.checked;
+  rows = c.requires.rows;
+  few = c.nodes_are_few.ensures;
+  old_size = ap (λ (bs : List Bool). length bs) (c.deref.ensures.value ∙ c.in_ok-none.ensures.items_if_clones_equal (λ y h. h)) ∙ length-replicate _ _ ∙ c.requires.edges;
+  new_size = c.requires.edges;
+  degree = λ e. c.names_outdeg.ensures.ignores e;
+  history = none-history g.U.Updater.answer c.args.program.now c.args.graph.now _ c.new-nothing.result c.new-nothing.ensures.changes c.new-nothing.ensures.marks;
+  arcs = All-nil (IsArc c.args.graph.now);
+  turned = λ e. absurd (true≢false e);
+}
+
+pub all_changes-requires : goal.all_changes-requires
+all_changes-requires g c =
+    let new = arcs_in c.args.rows.now.by_head c.args.edges.now in
+    omega (
+      arith,
+      ap (λ (vs : List Val). length vs) (c.deref-2.ensures.value ∙ c.in_ok-run.ensures.run.new_values),
+      length-lone g.U.Updater.answer c.args.program.now c.args.graph.now new c.limit_of.result,
+      c.nodes_are_few.ensures,
+    )
+
+pub returns-clause-outcome : goal.returns-clause-outcome
+returns-clause-outcome g c =
+    let new = arcs_in c.args.rows.now.by_head c.args.edges.now in
+    c.outcome.ensures
+    ∙ outcome-is g.U.Updater.answer c.args.program.now c.args.graph.now new c.in_ok-run.run'.history c.limit_of.result c.in_ok-run.ensures.run.history c.in_ok-run.ensures.run.few c.in_ok-run.ensures.run.last
+    c.args.rounds (sym c.limit_of.ensures) (omega (arith, c.requires.some, c.limit_of.ensures))

@@ -1,0 +1,49 @@
+use Rattle.std.proofs.Common.{◌∙◌, ℕ, Some, List, length, sym, ap, subst, refl, arith}
+use Rattle.std.specs.Prelude.{All}
+use Rattle.graph_model.specs.declared.value.Val.{Val}
+use Rattle.vertex_lang.specs.declared.arc.Arc.{Arc}
+use Rattle.vertex_lang.specs.Arcs.{IsArc}
+use Rattle.vertex_lang.specs.RoundLaws.{length-lone}
+use Rattle.round_kernel.specs.Histories.{IsHistory}
+use Rattle.round_kernel.specs.Sides.{arcs_in}
+use Rattle.round_kernel.proofs.Beginning.{turned-told}
+use Rattle.round_kernel.proofs.Ending.{outcome-is}
+use Rattle.round_kernel.proofs.step.next_step.Goals as goal
+
+pub run_rounds-requires-clause-frame : goal.run_rounds-requires-clause-frame
+run_rounds-requires-clause-frame g c =
+    let graph = c.args.graph.now in
+    let old = c.args.old.now in
+    record {
+      checked = c.requires.checked;
+      rows = c.requires.rows;
+      few = c.nodes_are_few.ensures;
+      old_size = c.requires.old;
+      new_size = c.requires.new;
+      degree = λ e. c.names_outdeg.ensures.ignores e;
+      history = subst (λ (n : ℕ). IsHistory g.U.Updater.answer c.args.program.now graph (Some (arcs_in c.args.rows.now.by_head old)) n c.args.history.now) (sym c.limit_of.ensures) c.requires.history;
+      arcs = subst (λ (xs : List Arc). All (IsArc graph) xs) (sym c.as_slice.ensures) c.in_ok-arcs.ensures.within;
+      turned = λ one. turned-told c.args.program.now.along graph c.args.rows.now old c.args.new.now c.args.turned.now c.as_slice.result.now c.requires.rows.arcs c.requires.old c.requires.along c.requires.all_turned (c.as_slice.ensures ∙ c.in_ok-arcs.ensures.arcs);
+    }
+
+pub changes_between-requires-clause-size : goal.changes_between-requires-clause-size
+changes_between-requires-clause-size g c =
+    let all = c.args.rows.now.by_head in
+    ap (λ (vs : List Val). length vs) (c.deref.ensures.value ∙ c.in_ok-run.ensures.run.old_values refl)
+    ∙ length-lone g.U.Updater.answer c.args.program.now c.args.graph.now (arcs_in all c.args.old.now) c.limit_of.result
+    ∙ sym (ap (λ (vs : List Val). length vs) (c.deref-2.ensures.value ∙ c.in_ok-run.ensures.run.new_values) ∙ length-lone g.U.Updater.answer c.args.program.now c.args.graph.now (arcs_in all c.args.new.now) c.limit_of.result)
+
+pub changes_between-requires-clause-few : goal.changes_between-requires-clause-few
+changes_between-requires-clause-few g c =
+    omega (
+      arith,
+      ap (λ (vs : List Val). length vs) (c.deref-2.ensures.value ∙ c.in_ok-run.ensures.run.new_values),
+      length-lone g.U.Updater.answer c.args.program.now c.args.graph.now (arcs_in c.args.rows.now.by_head c.args.new.now) c.limit_of.result,
+      c.nodes_are_few.ensures,
+    )
+
+pub returns-clause-outcome : goal.returns-clause-outcome
+returns-clause-outcome g c =
+    c.outcome.ensures
+    ∙ outcome-is g.U.Updater.answer c.args.program.now c.args.graph.now (arcs_in c.args.rows.now.by_head c.args.new.now) c.in_ok-run.run'.history c.limit_of.result c.in_ok-run.ensures.run.history c.in_ok-run.ensures.run.few c.in_ok-run.ensures.run.last
+    c.args.rounds (sym c.limit_of.ensures) (omega (arith, c.requires.some, c.limit_of.ensures))

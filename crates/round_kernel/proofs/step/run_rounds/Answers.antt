@@ -1,0 +1,38 @@
+use Rattle.std.proofs.Common.{◌∙◌, sym, arith}
+use Rattle.lone_work.specs.StepLaws.{no-round}
+use Rattle.round_kernel.specs.Frames.{new_arcs, old_arcs}
+use Rattle.round_kernel.proofs.Growing.{rounds-none}
+use Rattle.round_kernel.proofs.Ending.{IsEnd, end-quiet, end-all, run-history, run-work, run-new, run-old}
+use Rattle.round_kernel.proofs.step.run_rounds.Goals as goal
+use Rattle.round_kernel.proofs.step.run_rounds.Goals.{then-loop-round-test+else-not-is_quiet, else-loop-round-test}
+
+pub loop-round-init : goal.loop-round-init
+loop-round-init g c = record {
+  rounds = rounds-none g.U.Updater.answer c.args.frame c.new-history.result c.new-history.ensures.changes c.new-history.ensures.marks;
+  at = c.in_ok-lists.ensures.at;
+  idle = c.in_ok-lists.ensures.idle;
+  within = omega arith;
+  work = sym (no-round g.U.Updater.answer c.args.frame.program.now c.args.frame.graph.now (new_arcs c.args.frame) (old_arcs c.args.frame));
+  few = omega arith;
+  calls = omega arith;
+}
+
+pub returns-clause-run : goal.returns-clause-run
+returns-clause-run g c =
+    let answer = g.U.Updater.answer in
+    let f = c.args.frame in
+    let r = c.loop-round.round in
+    let h = c.loop-round.history in
+    let u = c.loop-round.invariant in
+    let end : IsEnd answer f r = elim c.loop-round-test.branch [
+      | then-loop-round-test+else-not-is_quiet w ↦ end-quiet answer f c.requires.frame r h u.rounds u.within (w.is_quiet.ensures.first w.if-not-is_quiet.false) (w.is_quiet.ensures.old w.if-not-is_quiet.false) (w.is_quiet.ensures.new w.if-not-is_quiet.false)
+      | else-loop-round-test w ↦ end-all answer f c.requires.frame r h u.rounds (omega arith)
+    ] in
+    record {
+      history = run-history answer f c.requires.frame r h u.rounds u.within end c.trim.new.changes c.trim.ensures.places;
+      few = omega (arith, c.trim.ensures.few, u.rounds.size, u.within);
+      last = c.trim.ensures.last;
+      work_is = u.work ∙ run-work answer f c.requires.frame r h u.rounds u.within end;
+      new_values = u.at.new_now.values_are ∙ run-new answer f c.requires.frame r h u.rounds u.within end;
+      old_values = λ one. (u.at.old_now one).values_are ∙ run-old answer f c.requires.frame r h u.rounds u.within end one;
+    }

@@ -1,0 +1,20 @@
+use Rattle.std.proofs.Common.{◌≡◌, ◌≤◌, ◌+◌, ◌*◌, ◌-◌}
+use Rattle.lone_work.specs.Work.{work}
+use Rattle.round_kernel.specs.Rounds.{AreIdle}
+use Rattle.round_kernel.specs.Frames.{StandAt, was_touched_at, new_arcs, old_arcs}
+use Rattle.round_kernel.specs.Steps.{HasRounds}
+use Rattle.round_kernel.proofs.step.run_rounds.Given as goal
+
+abbrev pub invariant-loop-round : goal.invariant-loop-round
+invariant-loop-round g l = record {
+  rounds : HasRounds g.U.Updater.answer l.frame l.round l.history;
+  at : StandAt g.U.Updater.answer l.frame l.round (was_touched_at g.U.Updater.answer l.frame l.round) l.lists;
+  idle : AreIdle l.lists;
+  within : l.round ≤ l.frame.limit;
+  work : l.work ≡ work g.U.Updater.answer l.frame.program.now l.frame.graph.now (new_arcs l.frame) (old_arcs l.frame) l.round;
+  few : l.work ≤ 1_000_000 * l.round;
+  calls : g.U.Counted.calls l.updater ≡ g.U.Counted.calls l.initial.updater + l.work;
+}
+
+abbrev pub decreases-loop-round : goal.decreases-loop-round
+decreases-loop-round g l = l.frame.limit - l.round

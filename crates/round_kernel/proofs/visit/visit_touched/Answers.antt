@@ -1,0 +1,31 @@
+use Rattle.std.proofs.Common.{◌∙◌, ◌++◌, ◌+◌, ap, sym, ℕ, Bool}
+use Rattle.std.specs.Prelude.{if◌then◌else◌}
+use Rattle.std.proofs.lemmas.List.{append-nil}
+use Rattle.vertex_lang.specs.Rounds.{value_at, lone}
+use Rattle.round_kernel.specs.Sides.{arcs_in}
+use Rattle.round_kernel.specs.Rounds.{old_view}
+use Rattle.round_kernel.specs.Made.{change_if}
+use Rattle.round_kernel.proofs.Visits.{marked-first, counted-where, stays-unchanged}
+use Rattle.round_kernel.proofs.visit.visit_touched.Goals as goal
+
+pub returns-then-not-either-clause-count : goal.returns-then-not-either-clause-count
+returns-then-not-either-clause-count g c =
+    let new = arcs_in c.args.rows.now.by_head c.args.sides.new.edges.now in
+    let old = old_view c.args.spot.first c.args.rows.now.by_head c.args.sides.old.edges.now in
+    let counted = counted-where g.U.Updater.answer c.args.program.now c.args.graph.now new old c.args.spot.node.0 c.args.spot.round c.in_ok-marked.marked c.args.spot.marked c.requires.touched c.in_ok-marked.ensures c.requires.marked (λ e. c.in_ok-marked.ensures ∙ sym (marked-first g.U.Updater.answer c.args.program.now c.args.graph.now new c.args.spot.node.0 c.args.spot.round e)) in
+    sym (ap {B = ℕ} (λ (b : Bool). if b then 1 else 0) (counted ∙ sym c.either.ensures ∙ c.if-not-either.true))
+
+pub returns-then-not-either-clause-changes : goal.returns-then-not-either-clause-changes
+returns-then-not-either-clause-changes g c =
+    let new = arcs_in c.args.rows.now.by_head c.args.sides.new.edges.now in
+    let old = old_view c.args.spot.first c.args.rows.now.by_head c.args.sides.old.edges.now in
+    let counted = counted-where g.U.Updater.answer c.args.program.now c.args.graph.now new old c.args.spot.node.0 c.args.spot.round c.in_ok-marked.marked c.args.spot.marked c.requires.touched c.in_ok-marked.ensures c.requires.marked (λ e. c.in_ok-marked.ensures ∙ sym (marked-first g.U.Updater.answer c.args.program.now c.args.graph.now new c.args.spot.node.0 c.args.spot.round e)) in
+    let value = value_at (lone g.U.Updater.answer c.args.program.now c.args.graph.now new (c.args.spot.round + 1)) c.args.spot.node.0 in
+    sym (ap (λ (b : Bool). c.args.made.now.changes ++ change_if b c.args.spot.node value) (stays-unchanged g.U.Updater.answer c.args.program.now c.args.graph.now new old c.args.spot.node.0 c.args.spot.round c.requires.node c.requires.touched (counted ∙ sym c.either.ensures ∙ c.if-not-either.true)) ∙ append-nil c.args.made.now.changes)
+
+pub returns-clause-count : goal.returns-clause-count
+returns-clause-count g c =
+    let new = arcs_in c.args.rows.now.by_head c.args.sides.new.edges.now in
+    let old = old_view c.args.spot.first c.args.rows.now.by_head c.args.sides.old.edges.now in
+    let counted = counted-where g.U.Updater.answer c.args.program.now c.args.graph.now new old c.args.spot.node.0 c.args.spot.round c.in_ok-marked.marked c.args.spot.marked c.requires.touched c.in_ok-marked.ensures c.requires.marked (λ e. c.in_ok-marked.ensures ∙ sym (marked-first g.U.Updater.answer c.args.program.now c.args.graph.now new c.args.spot.node.0 c.args.spot.round e)) in
+    sym (ap {B = ℕ} (λ (b : Bool). if b then 1 else 0) (counted ∙ sym c.either.ensures ∙ c.if-not-either.false))

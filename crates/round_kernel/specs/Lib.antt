@@ -1,0 +1,9 @@
+pub mod Sides
+pub mod Histories
+pub mod Queues
+pub mod RowLists
+pub mod Made
+pub mod Tallies
+pub mod Rounds
+pub mod Frames
+pub mod Steps

@@ -1,0 +1,45 @@
+-- A step between two rounds: what the lists hold, and what a round gives.
+use Rattle.std.specs.Prelude.{◌≡◌, ◌<◌, ◌-◌, ◌||◌, ℕ, Bool, true, false, List, length, map, get_or, All, Option, Some, None}
+use Rattle.graph_model.specs.GraphData.{GraphData}
+use Rattle.vertex_lang.specs.declared.arc.Arc.{Arc}
+use Rattle.vertex_lang.specs.declared.program.Program.{Program}
+use Rattle.vertex_lang.specs.Expressions.{Answer, start_of}
+use Rattle.vertex_lang.specs.Rounds.{nodes_of}
+use Rattle.lone_work.specs.Work.{touched_before}
+use Rattle.round_kernel.specs.declared.round.Lists.{Lists}
+use Rattle.round_kernel.specs.Sides.{IsTurned, arcs_in, AreSent, MayKeep, IsSized, IsRound}
+use Rattle.round_kernel.specs.Queues.{IsQueue, waits}
+
+-- the view before, if there's one
+abbrev pub old_view : Bool → List Arc → List Bool → Option (List Arc)
+old_view true all edges = None
+old_view false all edges = Some (arcs_in all edges)
+
+-- the lists stand at a round, and tell which nodes are touched
+pub record AreAt (answer : Answer) (p : Program) (graph : GraphData) (all : List Arc) (first : Bool) (old new : List Bool) (r : ℕ) (touched : ℕ → Bool) (lists : Lists) : Type 0 where
+  pub starts : lists.starts.items ≡ map (start_of p graph) (nodes_of graph)
+  pub new_now : IsRound answer p graph all new lists.new_degrees.items lists.new_now.items r
+  pub new_before : IsRound answer p graph all new lists.new_degrees.items lists.new_before.items (r - 1)
+  pub old_now : first ≡ false → IsRound answer p graph all old lists.old_degrees.items lists.old_now.items r
+  pub old_before : first ≡ false → IsRound answer p graph all old lists.old_degrees.items lists.old_before.items (r - 1)
+  pub old_sized : IsSized graph old lists.old_degrees.items lists.old_now.items
+  pub old_before_size : length lists.old_before.items ≡ length graph.ids
+  pub touched_size : length lists.touched.items ≡ length graph.ids
+  pub touched_are : (v : ℕ) → v < length graph.ids → get_or lists.touched.items v false ≡ touched v
+  pub marked_size : length lists.marked.items ≡ length graph.ids
+  pub watched_size : length lists.watched.items ≡ length graph.ids
+  pub watched_are : first ≡ false → All (λ a. IsTurned old new a → get_or lists.watched.items a.tail.0 false ≡ true) all
+  pub keeps : MayKeep lists.alike p graph
+  pub new_sent : AreSent lists.alike p graph lists.new_degrees.items lists.new_now.items lists.new_sent.items
+  pub before_sent : AreSent lists.alike p graph lists.new_degrees.items lists.new_before.items lists.before_sent.items
+  pub old_sent : AreSent lists.alike p graph lists.old_degrees.items lists.old_now.items lists.old_sent.items
+  pub queue : IsQueue (length graph.ids) lists.queue
+
+-- no node waits, and none is shown to be marked
+pub record AreIdle (lists : Lists) : Type 0 where
+  pub none_waits : (v : ℕ) → waits lists.queue v ≡ false
+  pub none_marked : (v : ℕ) → get_or lists.marked.items v false ≡ false
+
+-- touched before this round; where there's no view before, always
+abbrev pub was_touched : Answer → Program → GraphData → List Arc → Bool → List Bool → List Bool → ℕ → ℕ → Bool
+was_touched answer p graph all first old new r v = first || touched_before answer p graph (arcs_in all new) (old_view first all old) v r

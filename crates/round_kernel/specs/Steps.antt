@@ -1,0 +1,52 @@
+-- What a step makes of all rounds.
+use Rattle.std.specs.Prelude.{◌≡◌, ◌≢◌, ◌<◌, ◌≤◌, ◌+◌, ◌-◌, ◌==◌, ℕ, Bool, false, if◌then◌else◌, List, [], length, get_or, map, Contains, Some}
+use Rattle.std.specs.List.{range_with_len}
+use Rattle.std.specs.List.Sorted.{IsPermutation}
+use Rattle.graph_model.specs.declared.number.EdgeNo.{EdgeNo}
+use Rattle.graph_model.specs.GraphData.{GraphData}
+use Rattle.vertex_lang.specs.declared.program.Along.{Along}
+use Rattle.vertex_lang.specs.declared.lone.Rounds.{Rounds}
+use Rattle.vertex_lang.specs.declared.lone.Rounds.TheVariants as limits
+use Rattle.vertex_lang.specs.declared.lone.Outcome.{Outcome}
+use Rattle.vertex_lang.specs.declared.lone.Outcome.TheVariants as outcomes
+use Rattle.vertex_lang.specs.Arcs.{arcs_between}
+use Rattle.vertex_lang.specs.Expressions.{Answer}
+use Rattle.vertex_lang.specs.Rounds.{lone}
+use Rattle.lone_work.specs.Work.{work}
+use Rattle.round_kernel.specs.declared.history.History.{History}
+use Rattle.round_kernel.specs.declared.rows.Rows.{Rows}
+use Rattle.round_kernel.specs.declared.round.Frame.{Frame}
+use Rattle.round_kernel.specs.declared.step.Run.{Run}
+use Rattle.round_kernel.specs.Histories.{IsHistory, HasNodes, HasChanges}
+use Rattle.round_kernel.specs.RowLists.{edge}
+use Rattle.round_kernel.specs.Sides.{arcs_in}
+use Rattle.round_kernel.specs.Frames.{new_arcs, old_arcs, lone_at, marked_at, count_in}
+
+-- the rows are those of all edges of the graph in this direction
+abbrev pub AreAlong : Along → GraphData → Rows → Type 0
+AreAlong way graph rows = IsPermutation (arcs_between way graph (map edge (range_with_len 0 (length graph.ends)))) rows.by_head
+
+-- each edge that is in one of the two views alone is told
+abbrev pub TellsAll : List Bool → List Bool → List EdgeNo → Type 0
+TellsAll old new turned = (e : ℕ) → e < length old → get_or old e false ≢ get_or new e false → Contains turned (edge e)
+
+-- the history of the new view in the rounds before this one
+pub record HasRounds (answer : Answer) (f : Frame) (r : ℕ) (h : History) : Type 0 where
+  pub size : length h.changes ≡ r
+  pub changes : (k : ℕ) → k < r → HasChanges (count_in f) (lone_at answer f k) (lone_at answer f (k + 1)) (get_or h.changes k [])
+  pub marks_size : length h.marks ≡ r - 1
+  pub marks : (k : ℕ) → k + 1 < r → HasNodes (count_in f) (marked_at answer f (k + 1)) (get_or h.marks k [])
+
+-- what all rounds give
+pub record IsRun (answer : Answer) (f : Frame) (run : Run) : Type 0 where
+  pub history : IsHistory answer f.program.now f.graph.now (Some (new_arcs f)) f.limit run.history
+  pub few : length run.history.changes ≤ f.limit
+  pub last : 0 < length run.history.changes → get_or run.history.changes (length run.history.changes - 1) [] ≢ []
+  pub work_is : run.work ≡ work answer f.program.now f.graph.now (new_arcs f) (old_arcs f) f.limit
+  pub new_values : run.lists.new_now.items ≡ lone_at answer f f.limit
+  pub old_values : f.first ≡ false → run.lists.old_now.items ≡ lone answer f.program.now f.graph.now (arcs_in f.rows.now.by_head f.old.now) f.limit
+
+-- the outcome, given the number of the last round that changed something
+abbrev pub outcome_of : ℕ → Rounds → Outcome
+outcome_of last (limits.For n) = outcomes.After n
+outcome_of last (limits.Within n) = if last == n then outcomes.Unsettled else outcomes.Settled last

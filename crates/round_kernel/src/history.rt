@@ -1,0 +1,70 @@
+//! What is kept of a view.
+
+ghost use Rattle.std.specs.Prelude.{◌≡◌, ◌<◌, ◌-◌, [], get_or};
+
+use graph_model::{NodeNo, Val};
+use std::alloc::Global;
+use surge_outside::List;
+
+/// A node, and the value that it changed to.
+#[derive(Clone, Copy, Debug, PartialEq, Eq)]
+pub struct Change {
+    pub node: NodeNo,
+    pub value: Val,
+}
+
+/// The plain run of a view, as what changes from round to round. At place `k` of `changes` stand the nodes whose value
+/// changes from round `k` to round `k + 1`, each with its value then, and at place `k` of `marks` the nodes whose input
+/// differs between these rounds, each once and in any order. Behind the last place nothing changes.
+#[derive(Debug, Drop)]
+pub struct History {
+    pub changes: List<List<Change>>,
+    pub marks: List<List<NodeNo>>,
+}
+
+impl History {
+    /// Of a run in which nothing changes.
+    pub(crate) fn new(alloc: Global) -> History
+        ensures changes { result.changes ≡ [] }
+        ensures marks { result.marks ≡ [] }
+    {
+        History {
+            changes: List::new(alloc),
+            marks: List::new(alloc),
+        }
+    }
+
+    /// What changes from this round to the next.
+    pub(crate) fn changes_after(&self, round: u32) -> &[Change]
+        ensures { result.now ≡ get_or self.now.changes round [] }
+    {
+        list_at(&self.changes, round as usize)
+    }
+
+    /// What changes from the round before this one. Nothing is before round 0.
+    pub(crate) fn changes_before(&self, round: u32) -> &[Change]
+        ensures { 0 < round → result.now ≡ get_or self.now.changes (round - 1) [] }
+    {
+        if round == 0 {
+            return &[];
+        }
+        list_at(&self.changes, (round - 1) as usize)
+    }
+
+    /// The nodes whose input differs between this round and the next.
+    pub(crate) fn marks_after(&self, round: u32) -> &[NodeNo]
+        ensures { result.now ≡ get_or self.now.marks round [] }
+    {
+        list_at(&self.marks, round as usize)
+    }
+}
+
+/// The list at this place, and the empty one behind the last.
+pub(crate) fn list_at<T>(lists: &List<List<T>>, place: usize) -> &[T]
+    ensures { result.now ≡ get_or lists.now place [] }
+{
+    match lists.as_slice().get(place) {
+        Some(list) => list.as_slice(),
+        None => &[],
+    }
+}

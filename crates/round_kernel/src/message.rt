@@ -1,0 +1,277 @@
+//! What an arc brings in a round of a view.
+
+ghost use Rattle.std.specs.Prelude.{MatchBool, ◌≢◌, ◌≡◌, ◌<◌, ◌^◌, ◌++◌, not, false, List, length, get_or, fold, filter, All, IfOk, OnOk, IsTrue, IsFalse, [], ◌∷◌};
+ghost use Rattle.graph_model.specs.declared.value.Val.{Val};
+ghost use Rattle.vertex_lang.specs.Leaves.{IsChecked};
+ghost use Rattle.vertex_lang.specs.Arcs.{IsArc, is_sent};
+ghost use Rattle.vertex_lang.specs.Lone.{same_value};
+ghost use Rattle.multisets.specs.Multisets.{are_one};
+ghost use Rattle.graph_model.specs.declared.value.Val.TheVariants.{Nil};
+ghost use Rattle.vertex_lang.specs.Values.{lesser};
+ghost use Rattle.vertex_lang.specs.Rounds.{value_at};
+ghost use Rattle.vertex_lang.specs.Expressions.{sent_by};
+ghost use Rattle.round_kernel.specs.Sides.{in_view, brings, all_brought, AreSent, AreOneView, IsSized, AreLeft};
+ghost use Rattle.round_kernel.specs.Tallies.{tally_of};
+
+use crate::tally::{Tally, lesser_of};
+use graph_model::{Graph, Val};
+use multisets::are_one_multiset;
+use surge_outside::NoMemory;
+use vertex_lang::{Arc, Program, send};
+
+/// A round of a view: which edges are in the view, the value of each node in the round, and how many arcs of the view leave
+/// it.
+#[derive(Clone, Copy)]
+pub(crate) struct Side<'a> {
+    pub(crate) edges: &'a [bool],
+    pub(crate) degrees: &'a [u64],
+    pub(crate) values: &'a [Val],
+    /// Whether the message of a node is the same along all arcs that leave it, and is kept in `sent`.
+    pub(crate) alike: bool,
+    pub(crate) sent: &'a [Val],
+}
+
+/// Lists that are filled and emptied again.
+#[derive(Drop)]
+pub(crate) struct Scratch {
+    pub(crate) left: Vec<Val>,
+    pub(crate) right: Vec<Val>,
+}
+
+/// What an arc brings: none where its edge is not in the view.
+pub(crate) fn message(program: &Program, graph: &Graph, side: Side<'_>, arc: Arc) -> Val
+    requires checked { IsChecked program.now graph.now }
+    requires arc { IsArc graph.now arc }
+    requires sized { IsSized graph.now side.edges.now side.degrees.now side.values.now }
+    requires sent { AreSent side.alike program.now graph.now side.degrees.now side.values.now side.sent.now }
+    ensures { result ≡ brings program.now graph.now side.entry.edges.now side.entry.degrees.now side.entry.values.now arc }
+{
+    if side.edges[arc.edge.0 as usize] {
+        send_along(program, graph, side, arc)
+    } else {
+        Val::Nil
+    }
+}
+
+// What is sent along an arc, whether or not its edge is in the view.
+fn send_along(program: &Program, graph: &Graph, side: Side<'_>, arc: Arc) -> Val
+    requires checked { IsChecked program.now graph.now }
+    requires arc { IsArc graph.now arc }
+    requires sized { IsSized graph.now side.edges.now side.degrees.now side.values.now }
+    requires sent { AreSent side.alike program.now graph.now side.degrees.now side.values.now side.sent.now }
+    ensures { result ≡ sent_by program.now graph.now arc.tail.0 (value_at side.entry.values.now arc.tail.0) (get_or side.entry.degrees.now arc.tail.0 0) arc.edge.0 }
+{
+    let tail = arc.tail.0 as usize;
+    if side.alike {
+        return kept(side.sent, tail);
+    }
+    send(
+        program,
+        graph,
+        arc.tail,
+        side.values[tail],
+        side.degrees[tail],
+        arc.edge,
+    )
+}
+
+// The message that is kept for a node.
+fn kept(sent: &[Val], node: usize) -> Val
+    requires { node < length sent.now }
+    ensures { result ≡ value_at sent.now node }
+{
+    sent[node]
+}
+
+/// What all that these arcs bring comes to, in one pass over them.
+pub(crate) fn tally(program: &Program, graph: &Graph, side: Side<'_>, row: &[Arc]) -> Tally
+    requires checked { IsChecked program.now graph.now }
+    requires row { All (IsArc graph.now) row.now }
+    requires few { length row.now < 2 ^ 32 }
+    requires sized { IsSized graph.now side.edges.now side.degrees.now side.values.now }
+    requires sent { AreSent side.alike program.now graph.now side.degrees.now side.values.now side.sent.now }
+    ensures { result ≡ tally_of program.now.gather (all_brought program.now graph.now side.entry.edges.now side.entry.degrees.now side.entry.values.now row.now) }
+{
+    let mut tally = Tally::new();
+    for arc in row {
+        tally = tally.with(program.gather, message(program, graph, side, *arc));
+    }
+    tally
+}
+
+/// Whether these arcs bring different messages in two rounds, as multisets. It is less work where they are rounds of the same
+/// view.
+pub(crate) fn differ(
+    program: &Program,
+    graph: &Graph,
+    left: Side<'_>,
+    right: Side<'_>,
+    same_view: bool,
+    row: &[Arc],
+    scratch: &mut Scratch,
+) -> Result<bool, NoMemory>
+    requires checked { IsChecked program.now graph.now }
+    requires row { All (IsArc graph.now) row.now }
+    requires left { IsSized graph.now left.edges.now left.degrees.now left.values.now }
+    requires right { IsSized graph.now right.edges.now right.degrees.now right.values.now }
+    requires same { AreOneView same_view left.edges.now right.edges.now left.degrees.now right.degrees.now }
+    requires left_sent { AreSent left.alike program.now graph.now left.degrees.now left.values.now left.sent.now }
+    requires right_sent { AreSent right.alike program.now graph.now right.degrees.now right.values.now right.sent.now }
+    ensures { IfOk result (λ b. b ≡ not (are_one same_value
+        (all_brought program.now graph.now left.entry.edges.now left.entry.degrees.now left.entry.values.now row.now)
+        (all_brought program.now graph.now right.entry.edges.now right.entry.degrees.now right.entry.values.now row.now))) }
+{
+    scratch.left.clear();
+    scratch.right.clear();
+    fill(
+        program,
+        graph,
+        left,
+        right,
+        same_view,
+        row,
+        &mut scratch.left,
+        &mut scratch.right,
+    )?;
+    if told_apart(&scratch.left, &scratch.right) {
+        return Ok(true);
+    }
+    let same = are_one_multiset(&mut scratch.left, &mut scratch.right);
+    Ok(!same)
+}
+
+// Whether two lists are seen to be different multisets by how many messages they have and by the least one, with no sort.
+fn told_apart(left: &[Val], right: &[Val]) -> bool
+    ensures { IsTrue result → are_one same_value left.now right.now ≡ false }
+{
+    if left.len() != right.len() {
+        return true;
+    }
+    is_other(least_of(left), least_of(right))
+}
+
+// The least of some messages, and none of no message.
+fn least_of(messages: &[Val]) -> Val
+    ensures { result ≡ fold lesser Nil messages.now }
+{
+    let mut least = Val::Nil;
+    for message in messages {
+        least = lesser_of(least, *message);
+    }
+    least
+}
+
+// Puts into two lists what these arcs bring in two rounds, without what they bring in both.
+fn fill(
+    program: &Program,
+    graph: &Graph,
+    left: Side<'_>,
+    right: Side<'_>,
+    same_view: bool,
+    row: &[Arc],
+    first: &mut Vec<Val>,
+    second: &mut Vec<Val>,
+) -> Result<(), NoMemory>
+    requires checked { IsChecked program.now graph.now }
+    requires row { All (IsArc graph.now) row.now }
+    requires left { IsSized graph.now left.edges.now left.degrees.now left.values.now }
+    requires right { IsSized graph.now right.edges.now right.degrees.now right.values.now }
+    requires same { AreOneView same_view left.edges.now right.edges.now left.degrees.now right.degrees.now }
+    requires left_sent { AreSent left.alike program.now graph.now left.degrees.now left.values.now left.sent.now }
+    requires right_sent { AreSent right.alike program.now graph.now right.degrees.now right.values.now right.sent.now }
+    requires first { first.old.items ≡ [] }
+    requires second { second.old.items ≡ [] }
+    ensures { OnOk result (AreLeft first.new.items second.new.items
+        (all_brought program.now graph.now left.entry.edges.now left.entry.degrees.now left.entry.values.now row.now)
+        (all_brought program.now graph.now right.entry.edges.now right.entry.degrees.now right.entry.values.now row.now)) }
+{
+    for arc in row {
+        push_both(program, graph, left, right, same_view, *arc, first, second)?;
+    }
+    Ok(())
+}
+
+// Adds to two lists what an arc brings in two rounds, but to neither what it brings in both.
+fn push_both(
+    program: &Program,
+    graph: &Graph,
+    left: Side<'_>,
+    right: Side<'_>,
+    same_view: bool,
+    arc: Arc,
+    first: &mut Vec<Val>,
+    second: &mut Vec<Val>,
+) -> Result<(), NoMemory>
+    requires checked { IsChecked program.now graph.now }
+    requires arc { IsArc graph.now arc }
+    requires left { IsSized graph.now left.edges.now left.degrees.now left.values.now }
+    requires right { IsSized graph.now right.edges.now right.degrees.now right.values.now }
+    requires same { AreOneView same_view left.edges.now right.edges.now left.degrees.now right.degrees.now }
+    requires left_sent { AreSent left.alike program.now graph.now left.degrees.now left.values.now left.sent.now }
+    requires right_sent { AreSent right.alike program.now graph.now right.degrees.now right.values.now right.sent.now }
+    ensures { OnOk result ((all more : List Val) → AreLeft first.old.items second.old.items all more → AreLeft first.new.items second.new.items
+        (all ++ filter is_sent (brings program.now graph.now left.entry.edges.now left.entry.degrees.now left.entry.values.now arc ∷ []))
+        (more ++ filter is_sent (brings program.now graph.now right.entry.edges.now right.entry.degrees.now right.entry.values.now arc ∷ []))) }
+{
+    if !may_differ(left, right, same_view, arc) {
+        return Ok(());
+    }
+    let here = message(program, graph, left, arc);
+    let there = message(program, graph, right, arc);
+    if is_other(here, there) {
+        push_sent(first, here)?;
+        push_sent(second, there)?;
+    }
+    Ok(())
+}
+
+// Whether an arc may bring something else in one round than in the other: where its edge is in one of the two views alone, or
+// its tail has another value or another number of arcs.
+fn may_differ(left: Side<'_>, right: Side<'_>, same_view: bool, arc: Arc) -> bool
+    requires same { AreOneView same_view left.edges.now right.edges.now left.degrees.now right.degrees.now }
+    requires left_edges { arc.edge.0 < length left.edges.now }
+    requires right_edges { arc.edge.0 < length right.edges.now }
+    requires left_degrees { arc.tail.0 < length left.degrees.now }
+    requires right_degrees { arc.tail.0 < length right.degrees.now }
+    requires left_values { arc.tail.0 < length left.values.now }
+    requires right_values { arc.tail.0 < length right.values.now }
+    ensures edges { IsFalse result → in_view left.entry.edges.now arc ≡ in_view right.entry.edges.now arc }
+    ensures degrees { IsFalse result → get_or left.entry.degrees.now arc.tail.0 0 ≡ get_or right.entry.degrees.now arc.tail.0 0 }
+    ensures values { IsFalse result → value_at left.entry.values.now arc.tail.0 ≡ value_at right.entry.values.now arc.tail.0 }
+{
+    let edge = arc.edge.0 as usize;
+    let tail = arc.tail.0 as usize;
+    if left.alike {
+        return true;
+    }
+    if same_view {
+        return is_other(left.values[tail], right.values[tail]);
+    }
+    is_other(left.values[tail], right.values[tail])
+        || left.edges[edge] != right.edges[edge]
+        || left.degrees[tail] != right.degrees[tail]
+}
+
+// Adds a message. None is not sent.
+fn push_sent(messages: &mut Vec<Val>, message: Val) -> Result<(), NoMemory>
+    ensures { OnOk result (messages.new.items ≡ messages.old.items ++ filter is_sent (message ∷ [])) }
+{
+    if message != Val::Nil {
+        messages.push(message)?;
+    }
+    Ok(())
+}
+
+/// Whether two values differ.
+pub(crate) fn is_other(left: Val, right: Val) -> bool
+    ensures { result ≡ not (same_value left right) }
+{
+    differs(left, right)
+}
+
+// Whether two values differ, as the equality of values tells.
+fn differs(left: Val, right: Val) -> bool
+    ensures { MatchBool result (left ≢ right) (left ≡ right) }
+{
+    left != right
+}

@@ -1,0 +1,283 @@
+//! The step from a view to the next.
+
+ghost use Rattle.std.specs.Prelude.{◌≡◌, ◌≢◌, ◌<◌, ◌≤◌, ◌+◌, ◌-◌, ◌++◌, ◌∷◌, [], ℕ, true, false, None, Some, length, get_or, All, Contains, IfOk, OnOk, IsTrue, IsFalse};
+ghost use Rattle.vertex_lang.specs.Leaves.{IsChecked};
+ghost use Rattle.vertex_lang.specs.Lone.{number_of, answer_of};
+ghost use Rattle.vertex_lang.specs.Rounds.{lone};
+ghost use Rattle.lone_work.specs.Work.{work};
+ghost use Rattle.round_kernel.specs.Sides.{arcs_in};
+ghost use Rattle.round_kernel.specs.Histories.{IsHistory, HasChanges, changes_from, all_from};
+ghost use Rattle.round_kernel.specs.RowLists.{AreRows};
+ghost use Rattle.round_kernel.specs.Rounds.{AreIdle};
+ghost use Rattle.round_kernel.specs.Frames.{IsFrame, StandAt, new_arcs, old_arcs, lone_at, was_touched_at};
+ghost use Rattle.round_kernel.specs.Steps.{HasRounds, IsRun, outcome_of, TellsAll, AreAlong};
+
+use crate::history::{Change, History, list_at};
+use crate::round::{Frame, Lists, go_on, run_round};
+use crate::rows::Rows;
+use crate::values::{all_changes, changes_between};
+use crate::visit::Made;
+use graph_model::{EdgeNo, Graph};
+use std::alloc::Global;
+use surge_outside::{List, NoMemory};
+use vertex_lang::{Outcome, Program, Rounds, Updater, arcs_of, names_outdeg};
+
+/// What a step gives.
+#[derive(Debug, Drop)]
+pub struct Stepped {
+    /// The history of the view.
+    pub history: History,
+    /// The outcome of its plain run.
+    pub outcome: Outcome,
+    /// How its values after all rounds differ from those of the view before; of a first view all of them.
+    pub change: List<Change>,
+    /// Its work, which is the number of calls of the updater in the step.
+    pub work: u64,
+}
+
+/// Steps the first view of a segment. The error is want of memory.
+pub fn first_step<U: Updater>(
+    alloc: Global,
+    program: &Program,
+    graph: &Graph,
+    rows: &Rows,
+    edges: &[bool],
+    rounds: Rounds,
+    updater: &mut U,
+) -> Result<Stepped, NoMemory>
+    requires checked { IsChecked program.now graph.now }
+    requires rows { AreRows graph.now rows.now }
+    requires edges { length edges.now ≡ length graph.now.ends }
+    requires some { 1 ≤ number_of rounds }
+    requires limit { number_of rounds ≤ 1_000_000 }
+    ensures history { IfOk result (λ s. IsHistory U.answer program.now graph.now (Some (arcs_in rows.now.by_head edges.now)) (number_of rounds) s.history) }
+    ensures outcome { IfOk result (λ s. s.outcome ≡ (answer_of U.answer program.now graph.now (arcs_in rows.now.by_head edges.now) rounds).outcome) }
+    ensures change { IfOk result (λ s. s.change ≡ all_from 0 (lone U.answer program.now graph.now (arcs_in rows.now.by_head edges.now) (number_of rounds))) }
+    ensures work { IfOk result (λ s. s.work ≡ work U.answer program.now graph.now (arcs_in rows.now.by_head edges.now) None (number_of rounds)) }
+    ensures calls { IfOk result (λ s. U.calls updater.new ≡ U.calls updater.old + s.work) }
+{
+    nodes_are_few(graph);
+    let nothing = History::new(alloc);
+    let none = vec![in alloc; false; edges.len()]?;
+    let frame = Frame {
+        program,
+        graph,
+        rows,
+        first: true,
+        old: &none,
+        new: edges,
+        by_degree: names_outdeg(&program.send),
+        history: &nothing,
+        turned: &[],
+        limit: limit_of(rounds),
+    };
+    let run = run_rounds(alloc, frame, updater)?;
+    let change = all_changes(alloc, &run.lists.new_now)?;
+    Ok(Stepped {
+        outcome: outcome(&run.history, rounds),
+        history: run.history,
+        change,
+        work: run.work,
+    })
+}
+
+/// Steps a view behind another in its segment, given the history of that one, which edges are in the one and the other, and
+/// all edges that are in one of them alone. The error is want of memory.
+pub fn next_step<U: Updater>(
+    alloc: Global,
+    program: &Program,
+    graph: &Graph,
+    rows: &Rows,
+    history: &History,
+    old: &[bool],
+    new: &[bool],
+    turned: &[EdgeNo],
+    rounds: Rounds,
+    updater: &mut U,
+) -> Result<Stepped, NoMemory>
+    requires checked { IsChecked program.now graph.now }
+    requires rows { AreRows graph.now rows.now }
+    requires old { length old.now ≡ length graph.now.ends }
+    requires new { length new.now ≡ length graph.now.ends }
+    requires some { 1 ≤ number_of rounds }
+    requires limit { number_of rounds ≤ 1_000_000 }
+    requires along { AreAlong program.now.along graph.now rows.now }
+    requires turned { All (λ e. e.0 < length graph.now.ends) turned.now }
+    requires all_turned { TellsAll old.now new.now turned.now }
+    requires history { IsHistory U.answer program.now graph.now (Some (arcs_in rows.now.by_head old.now)) (number_of rounds) history.now }
+    ensures history { IfOk result (λ s. IsHistory U.answer program.now graph.now (Some (arcs_in rows.now.by_head new.now)) (number_of rounds) s.history) }
+    ensures outcome { IfOk result (λ s. s.outcome ≡ (answer_of U.answer program.now graph.now (arcs_in rows.now.by_head new.now) rounds).outcome) }
+    ensures change { IfOk result (λ s. s.change ≡ changes_from 0 (lone U.answer program.now graph.now (arcs_in rows.now.by_head old.now) (number_of rounds)) (lone U.answer program.now graph.now (arcs_in rows.now.by_head new.now) (number_of rounds))) }
+    ensures work { IfOk result (λ s. s.work ≡ work U.answer program.now graph.now (arcs_in rows.now.by_head new.now) (Some (arcs_in rows.now.by_head old.now)) (number_of rounds)) }
+    ensures calls { IfOk result (λ s. U.calls updater.new ≡ U.calls updater.old + s.work) }
+{
+    nodes_are_few(graph);
+    let arcs = arcs_of(alloc, graph, program.along, turned)?;
+    let frame = Frame {
+        program,
+        graph,
+        rows,
+        first: false,
+        old,
+        new,
+        by_degree: names_outdeg(&program.send),
+        history,
+        turned: arcs.as_slice(),
+        limit: limit_of(rounds),
+    };
+    let run = run_rounds(alloc, frame, updater)?;
+    let change = changes_between(alloc, &run.lists.old_now, &run.lists.new_now)?;
+    Ok(Stepped {
+        outcome: outcome(&run.history, rounds),
+        history: run.history,
+        change,
+        work: run.work,
+    })
+}
+
+// What all rounds give.
+#[derive(Drop)]
+struct Run {
+    history: History,
+    lists: Lists,
+    work: u64,
+}
+
+// Goes through the rounds, until nothing changes in either view.
+fn run_rounds<U: Updater>(alloc: Global, frame: Frame<'_>, updater: &mut U) -> Result<Run, NoMemory>
+    requires frame { IsFrame U.answer frame frame.limit }
+    requires limit { frame.limit ≤ 1_000_000 }
+    ensures run { IfOk result (IsRun U.answer frame.entry) }
+    ensures calls { IfOk result (λ run. U.calls updater.new ≡ U.calls updater.old + run.work) }
+{
+    let mut lists = Lists::new(alloc, frame, updater)?;
+    let mut history = History::new(alloc);
+    let mut work = 0;
+    let mut round = 0;
+    while round < frame.limit && !is_quiet(frame.history, &history, round) {
+        work += run_one(alloc, frame, round, &mut history, &mut lists, updater)?;
+        round += 1;
+    }
+    trim(&mut history.changes);
+    Ok(Run {
+        history,
+        lists,
+        work,
+    })
+}
+
+// Whether nothing changed in this round in either view.
+fn is_quiet(old: &History, new: &History, round: u32) -> bool
+    ensures first { IsTrue result → 0 < round }
+    ensures old { IsTrue result → get_or old.now.changes (round - 1) [] ≡ [] }
+    ensures new { IsTrue result → get_or new.now.changes (round - 1) [] ≡ [] }
+{
+    round > 0 && old.changes_after(round - 1).is_empty() && new.changes_after(round - 1).is_empty()
+}
+
+// Goes through one round. The answer is the number of counted nodes.
+fn run_one<U: Updater>(
+    alloc: Global,
+    frame: Frame<'_>,
+    round: u32,
+    history: &mut History,
+    lists: &mut Lists,
+    updater: &mut U,
+) -> Result<u64, NoMemory>
+    requires frame { IsFrame U.answer frame frame.limit }
+    requires round { round < frame.limit }
+    requires history { HasRounds U.answer frame round history.old }
+    requires at { StandAt U.answer frame round (was_touched_at U.answer frame round) lists.old }
+    requires idle { AreIdle lists.old }
+    ensures history { OnOk result (HasRounds U.answer frame.entry (round + 1) history.new) }
+    ensures at { OnOk result (StandAt U.answer frame.entry (round + 1) (was_touched_at U.answer frame.entry (round + 1)) lists.new) }
+    ensures idle { OnOk result (AreIdle lists.new) }
+    ensures work { IfOk result (λ n. work U.answer frame.entry.program.now frame.entry.graph.now (new_arcs frame.entry) (old_arcs frame.entry) (round + 1) ≡ work U.answer frame.entry.program.now frame.entry.graph.now (new_arcs frame.entry) (old_arcs frame.entry) round + n) }
+    ensures few { IfOk result (λ n. n ≤ 1_000_000) }
+    ensures calls { IfOk result (λ n. U.calls updater.new ≡ U.calls updater.old + n) }
+{
+    let before = history.changes_before(round);
+    let (made, work) = run_round(alloc, frame, before, round, lists, updater)?;
+    go_on(
+        frame,
+        before,
+        made.changes.as_slice(),
+        round,
+        lists,
+        updater,
+    );
+    add_round(history, round, made)?;
+    Ok(work)
+}
+
+// Adds what a round gave. The marks of round 0 are not kept.
+fn add_round(history: &mut History, round: u32, made: Made) -> Result<(), NoMemory>
+    ensures changes { OnOk result (history.new.changes ≡ history.old.changes ++ made.changes ∷ []) }
+    ensures first { OnOk result (round ≡ 0 → history.new.marks ≡ history.old.marks) }
+    ensures later { OnOk result (0 < round → history.new.marks ≡ history.old.marks ++ made.marks ∷ []) }
+{
+    let Made { marks, changes } = made;
+    history.changes.push(changes)?;
+    if round == 0 {
+        return Ok(());
+    }
+    history.marks.push(marks)?;
+    Ok(())
+}
+
+// Takes away rounds at the end in which nothing changes.
+fn trim(changes: &mut List<List<Change>>)
+    ensures places { (k : ℕ) → get_or changes.new k [] ≡ get_or changes.old k [] }
+    ensures few { length changes.new ≤ length changes.old }
+    ensures last { 0 < length changes.new → get_or changes.new (length changes.new - 1) [] ≢ [] }
+{
+    let mut count = changes.len();
+    while is_still(changes, count) {
+        count -= 1;
+    }
+    changes.truncate(count);
+}
+
+// Whether nothing changes in the last of so many rounds.
+fn is_still(changes: &List<List<Change>>, count: usize) -> bool
+    ensures some { IsTrue result → 0 < count }
+    ensures still { IsTrue result → get_or changes.now (count - 1) [] ≡ [] }
+    ensures moves { IsFalse result → 0 < count → get_or changes.now (count - 1) [] ≢ [] }
+{
+    count > 0 && list_at(changes, count - 1).is_empty()
+}
+
+// The outcome of a run, given its history.
+fn outcome(history: &History, rounds: Rounds) -> Outcome
+    requires { length history.now.changes ≤ 1_000_000 }
+    ensures { result ≡ outcome_of (length history.now.changes) rounds }
+{
+    match rounds {
+        Rounds::For(count) => Outcome::After(count),
+        Rounds::Within(limit) => {
+            let last = history.changes.len() as u32;
+            if last == limit {
+                Outcome::Unsettled
+            } else {
+                Outcome::Settled(last)
+            }
+        }
+    }
+}
+
+// A graph has at most 1,000,000 nodes.
+fn nodes_are_few(graph: &Graph)
+    ensures { length graph.now.ids ≤ 1_000_000 }
+{
+    let _count = graph.node_count();
+}
+
+// How many rounds are allowed.
+fn limit_of(rounds: Rounds) -> u32
+    ensures { result ≡ number_of rounds }
+{
+    match rounds {
+        Rounds::Within(limit) => limit,
+        Rounds::For(count) => count,
+    }
+}

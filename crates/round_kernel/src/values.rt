@@ -1,0 +1,244 @@
+//! The values of both views, round by round.
+
+ghost use Rattle.std.specs.Prelude.{◌≡◌, ◌<◌, ◌^◌, true, ℕ, List, length, map, get_or, slice_set, All, IfOk};
+ghost use Rattle.graph_model.specs.declared.value.Val.{Val};
+ghost use Rattle.vertex_lang.specs.Leaves.{IsChecked};
+ghost use Rattle.vertex_lang.specs.Expressions.{start_of};
+ghost use Rattle.vertex_lang.specs.Arcs.{IsArc, outdeg};
+ghost use Rattle.vertex_lang.specs.Rounds.{nodes_of};
+ghost use Rattle.round_kernel.specs.Sides.{arcs_in, AreSent, MayKeep};
+ghost use Rattle.round_kernel.specs.Histories.{HasChanges, AreChanged, changes_from, all_from};
+
+use crate::history::Change;
+use crate::message::is_other;
+use graph_model::{EdgeNo, Graph, NodeNo, Val};
+use std::alloc::Global;
+use surge_outside::{List, NoMemory};
+use vertex_lang::{Arc, Program, ignores_edge, send, start};
+
+/// The value with which each node starts, by its number.
+pub(crate) fn start_values(
+    alloc: Global,
+    program: &Program,
+    graph: &Graph,
+) -> Result<Vec<Val>, NoMemory>
+    requires { IsChecked program.now graph.now }
+    ensures { IfOk result (λ v. v.items ≡ map (start_of program.now graph.now) (nodes_of graph.now)) }
+{
+    let count = graph.node_count();
+    let mut values = Vec::with_capacity(alloc, count as usize)?;
+    for node in 0..count {
+        values.push(start(program, graph, NodeNo(node)))?;
+    }
+    Ok(values)
+}
+
+/// How many arcs leave each node, of those whose edge is in a view.
+pub(crate) fn count_degrees(
+    alloc: Global,
+    count: u32,
+    arcs: &[Arc],
+    edges: &[bool],
+) -> Result<Vec<u64>, NoMemory>
+    requires tails { All (λ a. a.tail.0 < count) arcs.now }
+    requires edges { All (λ a. a.edge.0 < length edges.now) arcs.now }
+    requires few { length arcs.now < 2 ^ 32 }
+    ensures size { IfOk result (λ v. length v.items ≡ count) }
+    ensures degrees { IfOk result (λ v. (u : ℕ) → u < count → get_or v.items u 0 ≡ outdeg (arcs_in arcs.now edges.now) u) }
+    ensures small { IfOk result (λ v. (u : ℕ) → u < count → get_or v.items u 0 < 2 ^ 32) }
+{
+    let mut degrees = vec![in alloc; 0u64; count as usize]?;
+    for arc in arcs {
+        if edges[arc.edge.0 as usize] {
+            degrees[arc.tail.0 as usize] += 1;
+        }
+    }
+    Ok(degrees)
+}
+
+/// The same where the message may depend on it, and else any numbers.
+pub(crate) fn degrees_if(
+    alloc: Global,
+    by_degree: bool,
+    count: u32,
+    arcs: &[Arc],
+    edges: &[bool],
+) -> Result<Vec<u64>, NoMemory>
+    requires tails { All (λ a. a.tail.0 < count) arcs.now }
+    requires edges { All (λ a. a.edge.0 < length edges.now) arcs.now }
+    requires few { length arcs.now < 2 ^ 32 }
+    ensures size { IfOk result (λ v. length v.items ≡ count) }
+    ensures degrees { IfOk result (λ v. by_degree ≡ true → (u : ℕ) → u < count → get_or v.items u 0 ≡ outdeg (arcs_in arcs.now edges.now) u) }
+    ensures small { IfOk result (λ v. (u : ℕ) → u < count → get_or v.items u 0 < 2 ^ 32) }
+{
+    if by_degree {
+        let degrees = count_degrees(alloc, count, arcs, edges)?;
+        return Ok(degrees);
+    }
+    let none = vec![in alloc; 0u64; count as usize]?;
+    Ok(none)
+}
+
+/// Gives each node that changed its value in the round before the value that it has.
+pub(crate) fn catch_up(before: &mut [Val], now: &[Val], changes: &[Change])
+    requires size { length before.old ≡ length now.now }
+    requires within { All (λ c. c.node.0 < length now.now) changes.now }
+    ensures all { HasChanges (length now.now) before.old now.now changes.now → before.new ≡ now.now }
+    ensures changed { AreChanged before.old now.now before.new changes.now }
+{
+    for change in changes {
+        let place = change.node.0 as usize;
+        before[place] = now[place];
+    }
+}
+
+/// Gives each node that changes its new value, and its new message where messages are kept.
+pub(crate) fn apply(
+    program: &Program,
+    graph: &Graph,
+    alike: bool,
+    degrees: &[u64],
+    now: &mut [Val],
+    sent: &mut [Val],
+    changes: &[Change],
+)
+    requires within { All (λ c. c.node.0 < length now.old) changes.now }
+    requires checked { IsChecked program.now graph.now }
+    requires size { length now.old ≡ length graph.now.ids }
+    requires degrees_size { length degrees.now ≡ length graph.now.ids }
+    requires small { (u : ℕ) → u < length graph.now.ids → get_or degrees.now u 0 < 2 ^ 32 }
+    requires keeps { MayKeep alike program.now graph.now }
+    requires sent { AreSent alike program.now graph.now degrees.now now.old sent.old }
+    ensures values { (after : List Val) → length after ≡ length now.old → HasChanges (length now.old) now.old after changes.now → now.new ≡ after }
+    ensures sent { AreSent alike program.now graph.now degrees.now now.new sent.new }
+{
+    for change in changes {
+        change_one(program, graph, alike, degrees, now, sent, *change);
+    }
+}
+
+// Gives a node its new value, and its new message where messages are kept.
+fn change_one(
+    program: &Program,
+    graph: &Graph,
+    alike: bool,
+    degrees: &[u64],
+    now: &mut [Val],
+    sent: &mut [Val],
+    change: Change,
+)
+    requires node { change.node.0 < length now.old }
+    requires checked { IsChecked program.now graph.now }
+    requires size { length now.old ≡ length graph.now.ids }
+    requires degrees_size { length degrees.now ≡ length graph.now.ids }
+    requires small { (u : ℕ) → u < length graph.now.ids → get_or degrees.now u 0 < 2 ^ 32 }
+    requires keeps { MayKeep alike program.now graph.now }
+    requires sent { AreSent alike program.now graph.now degrees.now now.old sent.old }
+    ensures value { now.new ≡ slice_set now.old change.node.0 change.value }
+    ensures sent { AreSent alike program.now graph.now degrees.now now.new sent.new }
+{
+    let place = change.node.0 as usize;
+    now[place] = change.value;
+    if !alike {
+        return;
+    }
+    let message = send(
+        program,
+        graph,
+        change.node,
+        change.value,
+        degrees[place],
+        EdgeNo(0),
+    );
+    put(sent, place, message);
+}
+
+// Keeps a message for a node.
+fn put(sent: &mut [Val], node: usize, message: Val)
+    requires { node < length sent.old }
+    ensures { sent.new ≡ slice_set sent.old node message }
+{
+    sent[node] = message;
+}
+
+/// Whether messages may be kept: they are the same along all arcs that leave a node, and there is an edge.
+pub(crate) fn may_keep(program: &Program, graph: &Graph) -> bool
+    ensures { MayKeep result program.now graph.now }
+{
+    let alike = ignores_edge(&program.send);
+    let edges = graph.edge_count();
+    alike && edges > 0
+}
+
+/// The message of each node, where messages are kept, and else nothing.
+pub(crate) fn send_all(
+    alloc: Global,
+    program: &Program,
+    graph: &Graph,
+    alike: bool,
+    values: &[Val],
+    degrees: &[u64],
+) -> Result<Vec<Val>, NoMemory>
+    requires checked { IsChecked program.now graph.now }
+    requires size { length values.now ≡ length graph.now.ids }
+    requires degrees_size { length degrees.now ≡ length graph.now.ids }
+    requires small { (u : ℕ) → u < length graph.now.ids → get_or degrees.now u 0 < 2 ^ 32 }
+    requires keeps { MayKeep alike program.now graph.now }
+    ensures { IfOk result (λ sent. AreSent alike program.now graph.now degrees.now values.now sent.items) }
+{
+    let mut sent = Vec::new(alloc);
+    if !alike {
+        return Ok(sent);
+    }
+    let count = graph.node_count();
+    for node in 0..count {
+        let place = node as usize;
+        let message = send(
+            program,
+            graph,
+            NodeNo(node),
+            values[place],
+            degrees[place],
+            EdgeNo(0),
+        );
+        sent.push(message)?;
+    }
+    Ok(sent)
+}
+
+/// What leads from the one list of values to the other.
+pub(crate) fn changes_between(
+    alloc: Global,
+    old: &[Val],
+    new: &[Val],
+) -> Result<List<Change>, NoMemory>
+    requires size { length old.now ≡ length new.now }
+    requires few { length new.now < 2 ^ 32 }
+    ensures { IfOk result (λ changes. changes ≡ changes_from 0 old.now new.now) }
+{
+    let mut changes = List::new(alloc);
+    for node in 0..new.len() {
+        if is_other(old[node], new[node]) {
+            changes.push(Change {
+                node: NodeNo(node as u32),
+                value: new[node],
+            })?;
+        }
+    }
+    Ok(changes)
+}
+
+/// The value of each node.
+pub(crate) fn all_changes(alloc: Global, new: &[Val]) -> Result<List<Change>, NoMemory>
+    requires { length new.now < 2 ^ 32 }
+    ensures { IfOk result (λ changes. changes ≡ all_from 0 new.now) }
+{
+    let mut changes = List::new(alloc);
+    for node in 0..new.len() {
+        changes.push(Change {
+            node: NodeNo(node as u32),
+            value: new[node],
+        })?;
+    }
+    Ok(changes)
+}

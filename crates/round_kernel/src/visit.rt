@@ -1,0 +1,267 @@
+//! A visit to a node in a round.
+
+ghost use Rattle.std.specs.Prelude.{◌≡◌, ◌<◌, ◌+◌, ◌-◌, ◌++◌, ◌&&◌, ◌||◌, not, true, false, length, Some, IfOk, OnOk, if◌then◌else◌};
+ghost use Rattle.vertex_lang.specs.Leaves.{IsChecked};
+ghost use Rattle.vertex_lang.specs.Expressions.{start_of};
+ghost use Rattle.vertex_lang.specs.Rounds.{value_at, lone};
+ghost use Rattle.vertex_lang.specs.Lone.{same_value};
+ghost use Rattle.lone_work.specs.Work.{node_touched, node_counted, node_marked};
+ghost use Rattle.round_kernel.specs.Sides.{arcs_in, row_of, AreSent, IsRound};
+ghost use Rattle.round_kernel.specs.RowLists.{AreRows};
+ghost use Rattle.round_kernel.specs.Rounds.{old_view, was_touched};
+ghost use Rattle.round_kernel.specs.Made.{mark_if, change_if};
+
+use crate::history::Change;
+use crate::message::{Scratch, Side, differ, is_other, tally};
+use crate::rows::Rows;
+use graph_model::{Graph, NodeNo, Val};
+use surge_outside::{List, NoMemory};
+use vertex_lang::{Program, Updater};
+
+/// A node in a round, and what is known of it.
+#[derive(Clone, Copy)]
+pub(crate) struct Spot {
+    pub(crate) node: NodeNo,
+    pub(crate) round: u32,
+    pub(crate) start: Val,
+    /// Whether there is no view before.
+    pub(crate) first: bool,
+    /// Whether its input changed in this round of the view before. At round 0 it is not looked at.
+    pub(crate) marked: bool,
+}
+
+/// The round in both views, and the values of the round before it in the new one.
+#[derive(Clone, Copy)]
+pub(crate) struct Sides<'a> {
+    pub(crate) old: Side<'a>,
+    pub(crate) new: Side<'a>,
+    pub(crate) before: &'a [Val],
+    pub(crate) before_sent: &'a [Val],
+}
+
+/// What a round of the new view gives: the nodes whose input changed in it, and what changes to the next round.
+#[derive(Drop)]
+pub(crate) struct Made {
+    pub(crate) marks: List<NodeNo>,
+    pub(crate) changes: List<Change>,
+}
+
+/// Visits a node: tells whether it is touched and evaluates it where it is counted. The answer is the number of counted nodes
+/// here, 0 or 1.
+pub(crate) fn visit<U: Updater>(
+    program: &Program,
+    graph: &Graph,
+    rows: &Rows,
+    sides: Sides<'_>,
+    spot: Spot,
+    touched: &mut bool,
+    scratch: &mut Scratch,
+    made: &mut Made,
+    updater: &mut U,
+) -> Result<u64, NoMemory>
+    requires checked { IsChecked program.now graph.now }
+    requires rows { AreRows graph.now rows.now }
+    requires node { spot.node.0 < length graph.now.ids }
+    requires start { spot.start ≡ start_of program.now graph.now spot.node.0 }
+    requires new { IsRound U.answer program.now graph.now rows.now.by_head sides.new.edges.now sides.new.degrees.now sides.new.values.now spot.round }
+    requires before { IsRound U.answer program.now graph.now rows.now.by_head sides.new.edges.now sides.new.degrees.now sides.before.now (spot.round - 1) }
+    requires old { spot.first ≡ false → IsRound U.answer program.now graph.now rows.now.by_head sides.old.edges.now sides.old.degrees.now sides.old.values.now spot.round }
+    requires marked { 0 < spot.round → spot.marked ≡ node_marked U.answer program.now graph.now (old_view spot.first rows.now.by_head sides.old.edges.now) spot.node.0 spot.round }
+    requires touched { touched.old ≡ was_touched U.answer program.now graph.now rows.now.by_head spot.first sides.old.edges.now sides.new.edges.now spot.round spot.node.0 }
+    requires new_sent { AreSent sides.new.alike program.now graph.now sides.new.degrees.now sides.new.values.now sides.new.sent.now }
+    requires before_sent { AreSent sides.new.alike program.now graph.now sides.new.degrees.now sides.before.now sides.before_sent.now }
+    requires old_sent { AreSent sides.old.alike program.now graph.now sides.old.degrees.now sides.old.values.now sides.old.sent.now }
+    ensures touched { OnOk result (touched.new ≡ node_touched U.answer program.now graph.now (arcs_in rows.now.by_head sides.entry.new.edges.now) (old_view spot.first rows.now.by_head sides.entry.old.edges.now) spot.node.0 spot.round) }
+    ensures count { IfOk result (λ n. n ≡ (if node_counted U.answer program.now graph.now (arcs_in rows.now.by_head sides.entry.new.edges.now) (old_view spot.first rows.now.by_head sides.entry.old.edges.now) spot.node.0 spot.round then 1 else 0)) }
+    ensures marks { OnOk result (made.new.marks ≡ made.old.marks ++ mark_if (node_touched U.answer program.now graph.now (arcs_in rows.now.by_head sides.entry.new.edges.now) (old_view spot.first rows.now.by_head sides.entry.old.edges.now) spot.node.0 spot.round
+        && node_marked U.answer program.now graph.now (Some (arcs_in rows.now.by_head sides.entry.new.edges.now)) spot.node.0 spot.round) spot.node) }
+    ensures changes { let values = lone U.answer program.now graph.now (arcs_in rows.now.by_head sides.entry.new.edges.now) in
+        OnOk result (made.new.changes ≡ made.old.changes ++ change_if (node_touched U.answer program.now graph.now (arcs_in rows.now.by_head sides.entry.new.edges.now) (old_view spot.first rows.now.by_head sides.entry.old.edges.now) spot.node.0 spot.round
+        && not (same_value (value_at (values (spot.round + 1)) spot.node.0) (value_at (values spot.round) spot.node.0))) spot.node (value_at (values (spot.round + 1)) spot.node.0)) }
+    ensures calls { IfOk result (λ n. U.calls updater.new ≡ U.calls updater.old + n) }
+{
+    let is_touched = is_touched(
+        program, graph, rows, sides, spot, *touched, scratch, updater,
+    )?;
+    *touched = is_touched;
+    if !is_touched {
+        return Ok(0);
+    }
+    visit_touched(program, graph, rows, sides, spot, scratch, made, updater)
+}
+
+// Visits a node that is touched.
+fn visit_touched<U: Updater>(
+    program: &Program,
+    graph: &Graph,
+    rows: &Rows,
+    sides: Sides<'_>,
+    spot: Spot,
+    scratch: &mut Scratch,
+    made: &mut Made,
+    updater: &mut U,
+) -> Result<u64, NoMemory>
+    requires checked { IsChecked program.now graph.now }
+    requires rows { AreRows graph.now rows.now }
+    requires node { spot.node.0 < length graph.now.ids }
+    requires start { spot.start ≡ start_of program.now graph.now spot.node.0 }
+    requires new { IsRound U.answer program.now graph.now rows.now.by_head sides.new.edges.now sides.new.degrees.now sides.new.values.now spot.round }
+    requires before { IsRound U.answer program.now graph.now rows.now.by_head sides.new.edges.now sides.new.degrees.now sides.before.now (spot.round - 1) }
+    requires marked { 0 < spot.round → spot.marked ≡ node_marked U.answer program.now graph.now (old_view spot.first rows.now.by_head sides.old.edges.now) spot.node.0 spot.round }
+    requires touched { node_touched U.answer program.now graph.now (arcs_in rows.now.by_head sides.new.edges.now) (old_view spot.first rows.now.by_head sides.old.edges.now) spot.node.0 spot.round ≡ true }
+    requires new_sent { AreSent sides.new.alike program.now graph.now sides.new.degrees.now sides.new.values.now sides.new.sent.now }
+    requires before_sent { AreSent sides.new.alike program.now graph.now sides.new.degrees.now sides.before.now sides.before_sent.now }
+    ensures count { IfOk result (λ n. n ≡ (if node_counted U.answer program.now graph.now (arcs_in rows.now.by_head sides.entry.new.edges.now) (old_view spot.first rows.now.by_head sides.entry.old.edges.now) spot.node.0 spot.round then 1 else 0)) }
+    ensures marks { OnOk result (made.new.marks ≡ made.old.marks ++ mark_if (node_marked U.answer program.now graph.now (Some (arcs_in rows.now.by_head sides.entry.new.edges.now)) spot.node.0 spot.round) spot.node) }
+    ensures changes { let values = lone U.answer program.now graph.now (arcs_in rows.now.by_head sides.entry.new.edges.now) in
+        OnOk result (made.new.changes ≡ made.old.changes ++ change_if (not (same_value (value_at (values (spot.round + 1)) spot.node.0) (value_at (values spot.round) spot.node.0))) spot.node (value_at (values (spot.round + 1)) spot.node.0)) }
+    ensures calls { IfOk result (λ n. U.calls updater.new ≡ U.calls updater.old + n) }
+{
+    let marked = is_marked(program, graph, rows, sides, spot, scratch, updater)?;
+    push_mark(&mut made.marks, marked, spot.node)?;
+    if !either(marked, spot.marked) {
+        return Ok(0);
+    }
+    let value = evaluate(program, graph, rows, sides.new, spot, updater);
+    let changed = is_other(value, sides.new.values[spot.node.0 as usize]);
+    push_change(&mut made.changes, changed, spot.node, value)?;
+    Ok(1)
+}
+
+// Whether a node was active in a round up to this one.
+fn is_touched<U: Updater>(
+    program: &Program,
+    graph: &Graph,
+    rows: &Rows,
+    sides: Sides<'_>,
+    spot: Spot,
+    touched: bool,
+    scratch: &mut Scratch,
+    _updater: &U,
+) -> Result<bool, NoMemory>
+    requires checked { IsChecked program.now graph.now }
+    requires rows { AreRows graph.now rows.now }
+    requires node { spot.node.0 < length graph.now.ids }
+    requires new { IsRound U.answer program.now graph.now rows.now.by_head sides.new.edges.now sides.new.degrees.now sides.new.values.now spot.round }
+    requires old { spot.first ≡ false → IsRound U.answer program.now graph.now rows.now.by_head sides.old.edges.now sides.old.degrees.now sides.old.values.now spot.round }
+    requires touched { touched ≡ was_touched U.answer program.now graph.now rows.now.by_head spot.first sides.old.edges.now sides.new.edges.now spot.round spot.node.0 }
+    requires new_sent { AreSent sides.new.alike program.now graph.now sides.new.degrees.now sides.new.values.now sides.new.sent.now }
+    requires old_sent { AreSent sides.old.alike program.now graph.now sides.old.degrees.now sides.old.values.now sides.old.sent.now }
+    ensures { IfOk result (λ b. b ≡ node_touched U.answer program.now graph.now (arcs_in rows.now.by_head sides.entry.new.edges.now) (old_view spot.first rows.now.by_head sides.entry.old.edges.now) spot.node.0 spot.round) }
+{
+    if either(spot.first, touched) {
+        return Ok(true);
+    }
+    let active = differ(
+        program,
+        graph,
+        sides.new,
+        sides.old,
+        false,
+        rows.into(spot.node),
+        scratch,
+    )?;
+    Ok(active)
+}
+
+// Whether the input of a node differs from that of the round before, in the new view.
+fn is_marked<U: Updater>(
+    program: &Program,
+    graph: &Graph,
+    rows: &Rows,
+    sides: Sides<'_>,
+    spot: Spot,
+    scratch: &mut Scratch,
+    _updater: &U,
+) -> Result<bool, NoMemory>
+    requires checked { IsChecked program.now graph.now }
+    requires rows { AreRows graph.now rows.now }
+    requires node { spot.node.0 < length graph.now.ids }
+    requires new { IsRound U.answer program.now graph.now rows.now.by_head sides.new.edges.now sides.new.degrees.now sides.new.values.now spot.round }
+    requires before { IsRound U.answer program.now graph.now rows.now.by_head sides.new.edges.now sides.new.degrees.now sides.before.now (spot.round - 1) }
+    requires new_sent { AreSent sides.new.alike program.now graph.now sides.new.degrees.now sides.new.values.now sides.new.sent.now }
+    requires before_sent { AreSent sides.new.alike program.now graph.now sides.new.degrees.now sides.before.now sides.before_sent.now }
+    ensures { IfOk result (λ b. b ≡ node_marked U.answer program.now graph.now (Some (arcs_in rows.now.by_head sides.entry.new.edges.now)) spot.node.0 spot.round) }
+{
+    if spot.round == 0 {
+        return Ok(true);
+    }
+    let place = spot.node.0 as usize;
+    if is_other(sides.new.values[place], sides.before[place]) {
+        return Ok(true);
+    }
+    let before = Side {
+        edges: sides.new.edges,
+        degrees: sides.new.degrees,
+        values: sides.before,
+        alike: sides.new.alike,
+        sent: sides.before_sent,
+    };
+    let marked = differ(
+        program,
+        graph,
+        sides.new,
+        before,
+        true,
+        rows.into(spot.node),
+        scratch,
+    )?;
+    Ok(marked)
+}
+
+// The next value of a node.
+fn evaluate<U: Updater>(
+    program: &Program,
+    graph: &Graph,
+    rows: &Rows,
+    side: Side<'_>,
+    spot: Spot,
+    updater: &mut U,
+) -> Val
+    requires checked { IsChecked program.now graph.now }
+    requires rows { AreRows graph.now rows.now }
+    requires node { spot.node.0 < length graph.now.ids }
+    requires start { spot.start ≡ start_of program.now graph.now spot.node.0 }
+    requires new { IsRound U.answer program.now graph.now rows.now.by_head side.edges.now side.degrees.now side.values.now spot.round }
+    requires sent { AreSent side.alike program.now graph.now side.degrees.now side.values.now side.sent.now }
+    ensures value { result ≡ value_at (lone U.answer program.now graph.now (arcs_in rows.now.by_head side.entry.edges.now) (spot.round + 1)) spot.node.0 }
+    ensures calls { U.calls updater.new ≡ U.calls updater.old + 1 }
+{
+    let tally = tally(program, graph, side, rows.into(spot.node));
+    let value = side.values[spot.node.0 as usize];
+    let gathered = tally.gathered(program.gather);
+    let id = graph.id(spot.node);
+    updater.update(program, id, spot.start, value, gathered, tally.count)
+}
+
+// Adds a node to the marks where it has one.
+fn push_mark(marks: &mut List<NodeNo>, marked: bool, node: NodeNo) -> Result<(), NoMemory>
+    ensures { OnOk result (marks.new ≡ marks.old ++ mark_if marked node) }
+{
+    if marked {
+        marks.push(node)?;
+    }
+    Ok(())
+}
+
+// Adds a change where there is one.
+fn push_change(
+    changes: &mut List<Change>,
+    changed: bool,
+    node: NodeNo,
+    value: Val,
+) -> Result<(), NoMemory>
+    ensures { OnOk result (changes.new ≡ changes.old ++ change_if changed node value) }
+{
+    if changed {
+        changes.push(Change { node, value })?;
+    }
+    Ok(())
+}
+
+// Whether one of them holds.
+fn either(left: bool, right: bool) -> bool
+    ensures { result ≡ (left || right) }
+{
+    left || right
+}
