@@ -2,3 +2,4 @@ pub mod Growing
 pub mod LaidOut
 pub mod Summing
 pub mod SmallGraph
+pub mod Holding

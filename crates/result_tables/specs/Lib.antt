@@ -1,1 +1,6 @@
 pub mod TableText
+pub mod Results
+pub mod Changes
+pub mod ChangeLaws
+pub mod Laws
+pub mod ResultsInside
