@@ -1,0 +1,15 @@
+use Rattle.std.proofs.Common.{◌-◌, length}
+use Rattle.std.specs.Prelude.{All}
+use Rattle.view_matrix.specs.Matrices.{IsView}
+use Rattle.view_segment.specs.Segments.{SegmentStands}
+use Rattle.view_segment.specs.Tasks.{task_over}
+use Rattle.segment_rows.proofs.tests.segments.step_all.Given as goal
+
+abbrev pub invariant-loop-alloc : goal.invariant-loop-alloc
+invariant-loop-alloc g l = record {
+  views : All (IsView l.matrix) l.segment.views;
+  stands : SegmentStands (task_over g.U.Updater.answer l.program l.graph l.rounds l.matrix) l.segment;
+}
+
+abbrev pub decreases-loop-alloc : goal.decreases-loop-alloc
+decreases-loop-alloc g l = length l.segment.views - length l.segment.works

@@ -1,0 +1,4 @@
+//! The cases, and what they share.
+
+mod cases;
+mod segments;

@@ -1,0 +1,5 @@
+pub mod Filters
+pub mod Transport
+pub mod Choosing
+pub mod Stepping
+pub mod Lasting

@@ -1,0 +1,66 @@
+-- What a segment holds.
+use Rattle.std.specs.Prelude.{◌≡◌, ◌≤◌, ℕ, ⊤, List, [], ◌∷◌, length, take, slice_get, Option, Some, None}
+use Rattle.graph_model.specs.declared.number.ViewNo.{ViewNo}
+use Rattle.graph_model.specs.declared.value.Val.{Val}
+use Rattle.vertex_lang.specs.Lone.{number_of}
+use Rattle.vertex_lang.specs.Rounds.{lone}
+use Rattle.round_kernel.specs.declared.history.Change.{Change}
+use Rattle.round_kernel.specs.declared.history.History.{History}
+use Rattle.round_kernel.specs.Histories.{IsHistory, all_from, changes_from}
+use Rattle.view_order.specs.Greedy.{numbers}
+use Rattle.view_segment.specs.declared.segment.Segment.{Segment}
+use Rattle.view_segment.specs.declared.segment.Given.{Given}
+use Rattle.view_segment.specs.Tasks.{Task, view_arcs, lone_of, works_of}
+
+-- the last of a list
+abbrev pub last_of : List ℕ → Option ℕ
+last_of [] = None
+last_of (v ∷ []) = Some v
+last_of (v ∷ w ∷ vs) = last_of (w ∷ vs)
+
+-- the views that were stepped, in their order
+abbrev pub stepped : Segment → List ℕ
+stepped s = take (length s.works) (numbers s.views)
+
+-- the one that was stepped last
+abbrev pub last_stepped : Segment → Option ℕ
+last_stepped s = last_of (stepped s)
+
+-- each view was stepped
+abbrev pub IsFinished : Segment → Type 0
+IsFinished s = length s.works ≡ length s.views
+
+-- the history is that of this view, and there is none where there is no view
+abbrev pub HistoryOf : Task → Option ℕ → Option History → Type 0
+HistoryOf task None None = ⊤
+HistoryOf task None (Some h) = ⊥
+HistoryOf task (Some v) None = ⊥
+HistoryOf task (Some v) (Some h) = IsHistory task.answer task.program task.graph (Some (view_arcs task v)) (number_of task.rounds) h
+
+-- what a segment holds is what its task says
+pub record SegmentStands (task : Task) (s : Segment) : Type 0 where
+  pub few : length s.works ≤ length s.views
+  pub works : s.works ≡ works_of task (stepped s)
+  pub history : HistoryOf task (last_stepped s) s.history
+
+-- ---- a step
+
+-- the values after all rounds
+abbrev pub last_values : Task → ℕ → List Val
+last_values task v = lone task.answer task.program task.graph (view_arcs task v) (number_of task.rounds)
+
+-- how they differ from those of the view before; of a first view all of them
+abbrev pub change_of : Task → Option ℕ → ℕ → List Change
+change_of task None v = all_from 0 (last_values task v)
+change_of task (Some u) v = changes_from 0 (last_values task u) (last_values task v)
+
+abbrev pub place_of : Option ViewNo → Option ℕ
+place_of None = None
+place_of (Some view) = Some view.0
+
+-- what the step of the next view gives
+pub record IsGiven (task : Task) (s : Segment) (given : Given) : Type 0 where
+  pub view : slice_get s.views (length s.works) ≡ Some given.view
+  pub before : place_of given.before ≡ last_stepped s
+  pub outcome : given.outcome ≡ (lone_of task given.view.0).outcome
+  pub change : given.change ≡ change_of task (last_stepped s) given.view.0

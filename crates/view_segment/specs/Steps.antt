@@ -1,0 +1,36 @@
+-- What a step is given, and what it gives.
+use Rattle.std.specs.Prelude.{◌≡◌, ◌≤◌, ℕ, Bool, List, length, map, Option, Some}
+use Rattle.std.specs.List.{range_with_len}
+use Rattle.vertex_lang.specs.Expressions.{Answer}
+use Rattle.vertex_lang.specs.Leaves.{IsChecked}
+use Rattle.vertex_lang.specs.Lone.{number_of}
+use Rattle.round_kernel.specs.declared.step.Stepped.{Stepped}
+use Rattle.round_kernel.specs.Histories.{IsHistory}
+use Rattle.round_kernel.specs.RowLists.{AreRows}
+use Rattle.round_kernel.specs.Steps.{AreAlong}
+use Rattle.view_matrix.specs.Matrices.{MatrixData, bit_of}
+use Rattle.view_segment.specs.declared.step.Setting.{Setting}
+use Rattle.view_segment.specs.Segments.{change_of}
+use Rattle.view_segment.specs.Tasks.{Task, task_over, view_arcs, lone_of, work_of}
+
+-- of each edge whether it stands in the view
+abbrev pub flags_of : MatrixData → ℕ → List Bool
+flags_of m v = map (λ e. bit_of m e v) (range_with_len 0 (length m.live))
+
+pub record IsSetting (s : Setting) : Type 0 where
+  pub checked : IsChecked s.program.now s.graph.now
+  pub some : 1 ≤ number_of s.rounds
+  pub limit : number_of s.rounds ≤ 1_000_000
+  pub rows : AreRows s.graph.now s.rows.now
+  pub along : AreAlong s.program.now.along s.graph.now s.rows.now
+  pub matrix : length s.matrix.now.live ≡ length s.graph.now.ends
+
+abbrev pub task_in : Answer → Setting → Task
+task_in answer s = task_over answer s.program.now s.graph.now s.rounds s.matrix.now
+
+-- what a step gives of a view behind another one, or behind none
+pub record IsStep (task : Task) (before : Option ℕ) (v : ℕ) (s : Stepped) : Type 0 where
+  pub history : IsHistory task.answer task.program task.graph (Some (view_arcs task v)) (number_of task.rounds) s.history
+  pub outcome : s.outcome ≡ (lone_of task v).outcome
+  pub change : s.change ≡ change_of task before v
+  pub work : s.work ≡ work_of task before v

@@ -1,0 +1,161 @@
+//! A segment.
+
+ghost use Rattle.std.specs.Prelude.{◌≡◌, ◌<◌, ◌≤◌, ◌+◌, ◌++◌, ◌∷◌, [], length, All, IfOk, OnOk, OnErr, None};
+ghost use Rattle.std.specs.Prelude.{◌==◌};
+ghost use Rattle.vertex_lang.specs.Leaves.{IsChecked};
+ghost use Rattle.vertex_lang.specs.Lone.{number_of};
+ghost use Rattle.round_kernel.specs.RowLists.{AreRows};
+ghost use Rattle.round_kernel.specs.Steps.{AreAlong};
+ghost use Rattle.view_matrix.specs.Matrices.{IsView};
+ghost use Rattle.view_segment.specs.Tasks.{task_over, work_of};
+ghost use Rattle.view_segment.specs.Segments.{last_stepped, place_of, SegmentStands, IsGiven};
+ghost use Rattle.view_segment.specs.Steps.{IsSetting, IsStep, task_in};
+
+use crate::step::{Setting, step_first, step_later};
+use graph_model::{Graph, ViewNo};
+use round_kernel::{Change, History, Rows, Stepped};
+use std::alloc::Global;
+use surge_outside::{List, NoMemory};
+use vertex_lang::{Outcome, Program, Rounds, Updater};
+use view_matrix::Matrix;
+
+/// Views that are run one after the other. Of the last one that was stepped its history is kept, and of each its work.
+#[derive(Debug, Drop)]
+pub struct Segment {
+    views: List<ViewNo>,
+    works: List<u64>,
+    history: Option<History>,
+}
+
+/// What the step of a view gives.
+#[derive(Debug, Drop)]
+pub struct Given {
+    /// The view.
+    pub view: ViewNo,
+    /// The one before it in its segment, if there is one.
+    pub before: Option<ViewNo>,
+    /// The outcome of its plain run.
+    pub outcome: Outcome,
+    /// How its values after all rounds differ from those of the view before, by rising node; of a first view all of them.
+    pub change: List<Change>,
+}
+
+impl Segment {
+    /// A segment without views.
+    pub fn new(alloc: Global) -> Segment
+        ensures views { result.views ≡ [] }
+        ensures works { result.works ≡ [] }
+        ensures history { result.history ≡ None }
+    {
+        Segment {
+            views: List::new(alloc),
+            works: List::new(alloc),
+            history: None,
+        }
+    }
+
+    /// Adds a view at the end. The error is want of memory, and it leaves the segment as it was.
+    pub fn add(&mut self, view: ViewNo) -> Result<(), NoMemory>
+        ensures views { OnOk result (self.new.views ≡ self.old.views ++ (view ∷ [])) }
+        ensures works { self.new.works ≡ self.old.works }
+        ensures history { self.new.history ≡ self.old.history }
+        ensures err { OnErr result (self.new ≡ self.old) }
+    {
+        self.views.push(view)
+    }
+
+    /// Its views, in their order.
+    pub fn views(&self) -> &[ViewNo]
+        ensures { result.now ≡ self.now.views }
+    {
+        self.views.as_slice()
+    }
+
+    /// The works of those that were stepped.
+    pub fn works(&self) -> &[u64]
+        ensures { result.now ≡ self.now.works }
+    {
+        self.works.as_slice()
+    }
+
+    /// Steps the next view. The rows are those of all edges of the graph in the direction of the program. The error is want of
+    /// memory; then the segment may be any.
+    pub fn step<U: Updater>(
+        &mut self,
+        alloc: Global,
+        graph: &Graph,
+        program: &Program,
+        rounds: Rounds,
+        matrix: &Matrix,
+        rows: &Rows,
+        updater: &mut U,
+    ) -> Result<Given, NoMemory>
+        requires checked { IsChecked program.now graph.now }
+        requires some { 1 ≤ number_of rounds }
+        requires limit { number_of rounds ≤ 1_000_000 }
+        requires rows { AreRows graph.now rows.now }
+        requires along { AreAlong program.now.along graph.now rows.now }
+        requires matrix { length matrix.now.live ≡ length graph.now.ends }
+        requires views { All (IsView matrix.now) self.old.views }
+        requires unfinished { length self.old.works < length self.old.views }
+        requires stands { SegmentStands (task_over U.answer program.now graph.now rounds matrix.now) self.old }
+        ensures stands { OnOk result (SegmentStands (task_over U.answer program.now graph.now rounds matrix.now) self.new) }
+        ensures views { OnOk result (self.new.views ≡ self.old.views) }
+        ensures work { IfOk result (λ given. self.new.works ≡ self.old.works ++ (work_of (task_over U.answer program.now graph.now rounds matrix.now) (last_stepped self.old) given.view.0 ∷ [])) }
+        ensures given { IfOk result (IsGiven (task_over U.answer program.now graph.now rounds matrix.now) self.old) }
+        ensures calls { IfOk result (λ given. U.calls updater.new ≡ U.calls updater.old + work_of (task_over U.answer program.now graph.now rounds matrix.now) (last_stepped self.old) given.view.0) }
+    {
+        let setting = Setting {
+            program,
+            graph,
+            rounds,
+            matrix,
+            rows,
+        };
+        let view = self.views.as_slice()[self.works.len()];
+        let (before, stepped) = self.step_view(alloc, setting, view, updater)?;
+        let Stepped {
+            history,
+            outcome,
+            change,
+            work,
+        } = stepped;
+        self.works.push(work)?;
+        self.history = Some(history);
+        Ok(Given {
+            view,
+            before,
+            outcome,
+            change,
+        })
+    }
+
+    // Steps a view behind the last one that was stepped. The answer tells which one that is, if there is one.
+    fn step_view<U: Updater>(
+        &self,
+        alloc: Global,
+        setting: Setting<'_>,
+        view: ViewNo,
+        updater: &mut U,
+    ) -> Result<(Option<ViewNo>, Stepped), NoMemory>
+        requires setting { IsSetting setting }
+        requires views { All (IsView setting.matrix.now) self.now.views }
+        requires view { IsView setting.matrix.now view }
+        requires stands { SegmentStands (task_in U.answer setting) self.now }
+        ensures before { IfOk result (λ made. place_of made.0 ≡ last_stepped self.now) }
+        ensures step { IfOk result (λ made. IsStep (task_in U.answer setting.entry) (last_stepped self.now) view.0 made.1) }
+        ensures calls { IfOk result (λ made. U.calls updater.new ≡ U.calls updater.old + made.1.work) }
+    {
+        match &self.history {
+            None => {
+                let stepped = step_first(alloc, setting, view, updater)?;
+                Ok((None, stepped))
+            }
+            Some(history) => {
+                let before = self.views.as_slice()[self.works.len() - 1];
+                let stepped = step_later(alloc, setting, before, history, view, updater)?;
+                Ok((Some(before), stepped))
+            }
+        }
+    }
+}
