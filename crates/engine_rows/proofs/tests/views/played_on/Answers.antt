@@ -1,0 +1,8 @@
+-- The program fits every graph, and a new engine stands for each updater.
+use Rattle.engine_rows.proofs.tests.views.played_on.Goals as goal
+
+pub new-requires-clause-checked : goal.new-requires-clause-checked
+new-requires-clause-checked g c = c.in_ok-program.ensures.checked _
+
+pub whole_text-requires-clause-stands : goal.whole_text-requires-clause-stands
+whole_text-requires-clause-stands g c = c.in_ok-engine.ensures.stands g.U.Updater.answer

@@ -1,0 +1,3 @@
+//! Small graphs, worked out by hand.
+
+mod views;

@@ -1,0 +1,11 @@
+pub mod Reading
+pub mod Putting
+pub mod Stepping
+pub mod Keeping
+pub mod Showing
+pub mod Assigning
+pub mod Moving
+pub mod Beginning
+pub mod Filling
+pub mod Deciding
+pub mod Telling

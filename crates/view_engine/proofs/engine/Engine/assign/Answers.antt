@@ -1,0 +1,28 @@
+-- The next view has its segment.
+use Rattle.std.proofs.Common.{sym, subst, All}
+use Rattle.view_matrix.specs.Matrices.{IsView}
+use Rattle.view_segment.specs.declared.segment.Segment.{Segment}
+use Rattle.view_engine.proofs.Assigning.{views_within, engine_more, one_more, stands_by, next_of}
+use Rattle.view_engine.proofs.engine.Engine.assign.Goals as goal
+
+pub decide-decision-requires-clause-views : goal.decide-decision-requires-clause-views
+decide-decision-requires-clause-views c =
+    subst (All (λ (s : Segment). All (IsView c.args.matrix.now) s.views)) (sym c.deref.ensures.value) (views_within c.args.matrix.now c.args.self.now c.requires.engine c.requires.views)
+
+pub returns-clause-engine : goal.returns-clause-engine
+returns-clause-engine c =
+    let e = c.args.self.now in
+    engine_more e c.put.new.segments c.decide-decision.result.anew c.decide-decision.result.later _ c.in_ok-put.ensures
+    (next_of c.as_slice.result.now e.order e.assigned (record { 0 = 0 }) c.as_slice.ensures c.requires.left) c.requires.engine c.requires.left c.decide-decision.ensures.later
+
+pub returns-clause-one : goal.returns-clause-one
+returns-clause-one c =
+    let e = c.args.self.now in
+    one_more e c.put.new.segments c.decide-decision.result.anew c.decide-decision.result.later _ c.in_ok-put.ensures
+    (next_of c.as_slice.result.now e.order e.assigned (record { 0 = 0 }) c.as_slice.ensures c.requires.left)
+
+pub returns-clause-stands : goal.returns-clause-stands
+returns-clause-stands c = λ answer ready so_far.
+    let e = c.args.self.now in
+    stands_by answer c.args.matrix.now e c.put.new.segments c.decide-decision.result _ c.deref.result.now c.deref.ensures.value c.in_ok-put.ensures
+    (next_of c.as_slice.result.now e.order e.assigned (record { 0 = 0 }) c.as_slice.ensures c.requires.left) c.decide-decision.ensures.decided ready so_far
