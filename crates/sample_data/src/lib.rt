@@ -1,0 +1,109 @@
+//! The sample: a graph and a script that a number fixes, for a first try and for measuring.
+//!
+//! It stands on a stream of numbers that a seed fixes (`draws`). It offers the bytes of two data files and of a script over them:
+//! a graph of 2,000 nodes and 10,000 edges with weights and times, sixteen windows in time, and a run of least weights on
+//! them. Its model is `specs/Sample.antt`: the texts as functions of the number. It promises exactly these bytes.
+#![tactic(auto)]
+
+ghost use Rattle.std.specs.Prelude.{◌≡◌, ◌<◌, ◌≤◌, ◌+◌, ◌++◌, IfOk, OnOk};
+ghost use Rattle.sample_data.specs.Sample.{nodes_text, edges_text, script_text, id_line, ids_from, edge_drawn, edges_drawn, edge_line, state_after};
+
+use draws::Draws;
+use std::alloc::Global;
+use surge_outside::NoMemory;
+
+const NODES: u32 = 2_000;
+
+const EDGES: u32 = 10_000;
+
+const WEIGHTS: u32 = 9;
+
+const TIMES: u32 = 160;
+
+/// The nodes file, the same in each sample: ids 1 to 2,000. The error is want of memory.
+pub fn nodes(alloc: Global) -> Result<Vec<u8>, NoMemory>
+    ensures { IfOk result (λ bytes. bytes.items ≡ nodes_text) }
+{
+    let mut text = Vec::from_slice(alloc, b"id\n")?;
+    push_ids(alloc, &mut text)?;
+    Ok(text)
+}
+
+// Adds a line for each id.
+fn push_ids(alloc: Global, text: &mut Vec<u8>) -> Result<(), NoMemory>
+    ensures { OnOk result (text.new.items ≡ text.old.items ++ ids_from 1 2_000) }
+{
+    let mut left = NODES;
+    while left > 0 {
+        push_id(alloc, text, NODES + 1 - left)?;
+        left -= 1;
+    }
+    Ok(())
+}
+
+fn push_id(alloc: Global, text: &mut Vec<u8>, id: u32) -> Result<(), NoMemory>
+    ensures { OnOk result (text.new.items ≡ text.old.items ++ id_line id) }
+{
+    let line = format!(in alloc; "{id}\n")?;
+    text.extend_from_slice(line.as_bytes())?;
+    Ok(())
+}
+
+/// The edges file of the sample with this number: 10,000 edges with a weight from 1 to 9 and a time below 160. The error is
+/// want of memory.
+pub fn edges(alloc: Global, number: u64) -> Result<Vec<u8>, NoMemory>
+    ensures { IfOk result (λ bytes. bytes.items ≡ edges_text number) }
+{
+    let mut text = Vec::from_slice(alloc, b"src,dst,w:int,t:int\n")?;
+    push_edges(alloc, &mut text, Draws::new(number))?;
+    Ok(text)
+}
+
+// Adds all edges.
+fn push_edges(alloc: Global, text: &mut Vec<u8>, draws: Draws) -> Result<(), NoMemory>
+    ensures { OnOk result (text.new.items ≡ text.old.items ++ edges_drawn 10_000 draws.state) }
+{
+    let mut draws = draws;
+    let mut left = EDGES;
+    while left > 0 {
+        push_edge(alloc, text, &mut draws)?;
+        left -= 1;
+    }
+    Ok(())
+}
+
+fn push_edge(alloc: Global, text: &mut Vec<u8>, draws: &mut Draws) -> Result<(), NoMemory>
+    ensures text { OnOk result (text.new.items ≡ text.old.items ++ edge_drawn draws.old.state) }
+    ensures state { draws.new.state ≡ state_after 4 draws.old.state }
+{
+    let source = 1 + draws.draw(NODES);
+    let destination = 1 + draws.draw(NODES);
+    let weight = 1 + draws.draw(WEIGHTS);
+    let time = draws.draw(TIMES);
+    push_line(alloc, text, source, destination, weight, time)
+}
+
+fn push_line(
+    alloc: Global,
+    text: &mut Vec<u8>,
+    source: u32,
+    destination: u32,
+    weight: u32,
+    time: u32,
+) -> Result<(), NoMemory>
+    ensures { OnOk result (text.new.items ≡ text.old.items ++ edge_line source destination weight time) }
+{
+    let line = format!(in alloc; "{source},{destination},{weight},{time}\n")?;
+    text.extend_from_slice(line.as_bytes())?;
+    Ok(())
+}
+
+/// The script of each sample. The error is want of memory.
+pub fn script(alloc: Global) -> Result<Vec<u8>, NoMemory>
+    ensures { IfOk result (λ bytes. bytes.items ≡ script_text) }
+{
+    Ok(Vec::from_slice(
+        alloc,
+        b"load graph S nodes 'nodes.csv' edges 'edges.csv';\ncreate view collection W on S [w: window t from 0 to 150 width 40 step 10];\nrun dist(1, w) on W within 2000 rounds split auto;\n",
+    )?)
+}
