@@ -37,7 +37,6 @@ use Rattle.gvdl_check.specs.declared.plan.RunPlan.{RunPlan}
 use Rattle.gvdl_check.specs.declared.plan.Step.TheVariants as step
 use Rattle.gvdl_check.specs.declared.plan.Plan.{Plan}
 use Rattle.gvdl_check.specs.declared.known.Known.{Known}
-use Rattle.gvdl_check.specs.Built.{is_built}
 use Rattle.gvdl_check.specs.Faults.{at}
 use Rattle.gvdl_check.specs.Names.{NameList, meaning_of, new_name, base_of, collection_of, kept_of, as_program, known_program, program_of}
 use Rattle.gvdl_check.specs.Known.{first_names, loaded, with_step, with_single, collection_plan, with_collection, collection_at, views_in, with_views, append_step, with_append, with_program, with_run}
@@ -45,7 +44,7 @@ use Rattle.gvdl_check.specs.Predicates.{predicate}
 use Rattle.gvdl_check.specs.Singles.{rules_at}
 use Rattle.gvdl_check.specs.Views.{view_on, new_view, room, rule_added, is_window, window_count, window_name, windowed, window_added, slid, windows_added, body_added, item_added, items_added}
 use Rattle.gvdl_check.specs.ViewLaws.{turns_keep}
-use Rattle.gvdl_check.specs.Plans.{load, single, collection, views_appended, append, program, order_of, kept_among, keep_added, run_plan, program_meant, limits_meant, run_planned, run, limits_of, show_order, show_work, statement_added, statement_judged, plan_of, plan_from, plan}
+use Rattle.gvdl_check.specs.Plans.{load, single, collection, views_appended, append, program, order_of, kept_among, keep_added, run_plan, program_meant, limits_meant, run_planned, run, limits_of, show_order, show_work, statement_added, statement_added, plan_of, plan_from, plan}
 use Rattle.gvdl_check.specs.Continued.{IsFront, IsContinued, GrowsTo, Continues}
 
 -- ---- fronts
@@ -362,10 +361,8 @@ judged_at : {A : Type 0} (n : ℕ) (said : Judged A) (a : A) → at n said ≡ O
 judged_at n (Ok b) a e = ap Ok (same_value b a e)
 judged_at n (Err r) a e = absurd cc
 
-one_extends : (g : GraphData) (n : ℕ) (k next : Known) (s : Statement) → at n (statement_judged g k s) ≡ Ok next → Extends g k next
-one_extends g n k next s e =
-    let t = through (expect (is_built s) refusal.NotBuilt) (λ _. statement_added g k s) next (judged_at n (statement_judged g k s) next e) in
-    statement_extends g k next s t.rest
+one_extends : (g : GraphData) (n : ℕ) (k next : Known) (s : Statement) → at n (statement_added g k s) ≡ Ok next → Extends g k next
+one_extends g n k next s e = statement_extends g k next s (judged_at n (statement_added g k s) next e)
 
 -- the plan of what is known after some statements
 record Ends (g : GraphData) (k : Known) (p : Plan) : Type 0 where
@@ -376,7 +373,7 @@ record Ends (g : GraphData) (k : Known) (p : Plan) : Type 0 where
 whole_extends : (g : GraphData) (n : ℕ) (k : Known) (p : Plan) (ss : List Statement) → plan_from g n k ss ≡ Ok p → Ends g k p
 whole_extends g n k p [] e = record { last = k; is = same_value (plan_of k) p e; extends = extends_itself g k }
 whole_extends g n k p (s ∷ ss) e =
-    let t = through (at n (statement_judged g k s)) (λ next. plan_from g (n + 1) next ss) p e in
+    let t = through (at n (statement_added g k s)) (λ next. plan_from g (n + 1) next ss) p e in
     let rest = whole_extends g (n + 1) t.value p ss t.rest in
     record { last = rest.last; is = rest.is; extends = extends_both g k t.value rest.last (one_extends g n k t.value s t.first) rest.extends }
 
@@ -394,8 +391,8 @@ front_extends g n k p q [] more first second = record {
   rest = whole_extends g n k q more second;
 }
 front_extends g n k p q (s ∷ ss) more first second =
-    let t = through (at n (statement_judged g k s)) (λ next. plan_from g (n + 1) next ss) p first in
-    let later : plan_from g (n + 1) t.value (ss ++ more) ≡ Ok q = behind_value (at n (statement_judged g k s)) t.value (λ next. plan_from g (n + 1) next (ss ++ more)) q t.first second in
+    let t = through (at n (statement_added g k s)) (λ next. plan_from g (n + 1) next ss) p first in
+    let later : plan_from g (n + 1) t.value (ss ++ more) ≡ Ok q = behind_value (at n (statement_added g k s)) t.value (λ next. plan_from g (n + 1) next (ss ++ more)) q t.first second in
     let on = front_extends g (n + 1) t.value p q ss more t.rest later in
     record {
       middle = record { last = on.middle.last; is = on.middle.is; extends = extends_both g k t.value on.middle.last (one_extends g n k t.value s t.first) on.middle.extends };

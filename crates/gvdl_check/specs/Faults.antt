@@ -10,7 +10,6 @@ use Rattle.gvdl_programs.specs.declared.refusal.Stop.TheVariants as stop
 use Rattle.gvdl_programs.specs.Judging.{Judged}
 
 abbrev pub fault_at : ℕ → Refusal → CheckFault
-fault_at n refusal.NotBuilt = fault.NotBuilt n
 fault_at n refusal.UnknownName = fault.Fault (script.UnknownName n)
 fault_at n refusal.RepeatedName = fault.Fault (script.RepeatedName n)
 fault_at n refusal.UnknownProperty = fault.Fault (script.UnknownProperty n)

@@ -9,8 +9,7 @@ use Rattle.edge_predicates.specs.declared.pred.Place.TheVariants as place
 use Rattle.edge_predicates.specs.declared.pred.Pred.{Pred}
 use Rattle.edge_predicates.specs.declared.pred.Pred.TheOpen.{Pred-F}
 use Rattle.edge_predicates.specs.declared.pred.Pred.TheFolds.{fold-Pred}
-use Rattle.segment_split.specs.declared.SplitRule.{SplitRule}
-use Rattle.segment_split.specs.declared.SplitRule.TheVariants as split
+use Rattle.segment_split.specs.Rule.{HasNumber}
 use Rattle.vertex_lang.specs.Leaves.{IsChecked}
 use Rattle.vertex_lang.specs.Lone.{number_of}
 use Rattle.gvdl_programs.specs.Fits.{ProgramFits}
@@ -56,11 +55,6 @@ pub record ViewsFit (g : GraphData) (views : List ViewPlan) : Type 0 where
   pub rules : All (λ view. RuleFits g view.rule.rules) views
   pub distinct : IsDistinct bytes_eq (map (λ view. view.name) views)
 
--- a segment has at least one view
-abbrev pub SplitFits : SplitRule → Type 0
-SplitFits (split.Every n) = 1 ≤ n
-SplitFits _ = Unit {0}
-
 -- a run on one of so many collections, of a program that fits the graph, with rounds and segments
 -- that are allowed
 pub record RunFits (g : GraphData) (collections : ℕ) (run : RunPlan) : Type 0 where
@@ -68,7 +62,7 @@ pub record RunFits (g : GraphData) (collections : ℕ) (run : RunPlan) : Type 0 
   pub checked : IsChecked run.program g
   pub some : 1 ≤ number_of run.rounds
   pub limit : number_of run.rounds ≤ 1_000_000
-  pub split : SplitFits run.split
+  pub split : HasNumber run.split
 
 pub record PlanFits (g : GraphData) (p : Plan) : Type 0 where
   pub collections : All (λ c. ViewsFit g c.views) p.collections

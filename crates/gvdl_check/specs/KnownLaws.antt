@@ -22,6 +22,7 @@ use Rattle.gvdl_tree.specs.declared.script.SplitWord.TheVariants as split_word
 use Rattle.gvdl_tree.specs.declared.script.Statement.{Statement}
 use Rattle.gvdl_tree.specs.declared.script.Statement.TheVariants as statement
 use Rattle.edge_predicates.specs.declared.pred.Pred.{Pred}
+use Rattle.segment_split.specs.Rule.{HasNumber}
 use Rattle.segment_split.specs.declared.SplitRule.{SplitRule}
 use Rattle.segment_split.specs.declared.SplitRule.TheVariants as split
 use Rattle.vertex_lang.specs.declared.program.Program.{Program}
@@ -63,7 +64,7 @@ use Rattle.gvdl_check.specs.Plans.{rounds_of, order_of, every, split_of, kept_am
 use Rattle.gvdl_check.specs.Plans.{run_plan, program_meant, limits_meant, run_planned, run, limits_of}
 use Rattle.gvdl_check.specs.Plans.{show_order, show_work, statement_added}
 use Rattle.gvdl_check.specs.Steps.{makes, runs, StepsFit}
-use Rattle.gvdl_check.specs.Fits.{fits, RuleFits, ViewsFit, SplitFits, RunFits, MeaningFits}
+use Rattle.gvdl_check.specs.Fits.{fits, RuleFits, ViewsFit, RunFits, MeaningFits}
 use Rattle.gvdl_check.specs.Fits.{KnownFits, IsSmall}
 use Rattle.gvdl_check.specs.RuleLaws.{predicate_fits}
 use Rattle.gvdl_check.specs.ViewLaws.{none_fits, views_fit, views_grow}
@@ -149,26 +150,26 @@ rounds_fit within n limit e =
     sym (number_is within n) ∙ ap number_of (same_value (rounds_with within n) limit t.rest) in
     subst (λ (m : ℕ). (1 ≤ m) × (m ≤ 1_000_000)) same (grind (arith, nat_tests), grind (arith, nat_tests))
 
-every_fits : (n : ℕ) (rule : SplitRule) → every n ≡ Ok rule → SplitFits rule
+every_fits : (n : ℕ) (rule : SplitRule) → every n ≡ Ok rule → HasNumber rule
 every_fits n rule e =
     let t = through (expect (not (n == 0)) refusal.BadSplit) (λ _. Ok (split.Every n)) rule e in
     let allowed : not (n == 0) ≡ true = expected (not (n == 0)) refusal.BadSplit t.value t.first in
     let some : 1 ≤ n = grind (arith, nat_tests) in
-    subst SplitFits (same_value (split.Every n) rule t.rest) some
+    subst HasNumber (same_value (split.Every n) rule t.rest) some
 
-split_fits : (d : Option SplitWord) (rule : SplitRule) → split_of d ≡ Ok rule → SplitFits rule
-split_fits None rule e = subst SplitFits (same_value split.Whole rule e) tt
-split_fits (Some split_word.Whole) rule e = subst SplitFits (same_value split.Whole rule e) tt
+split_fits : (d : Option SplitWord) (rule : SplitRule) → split_of d ≡ Ok rule → HasNumber rule
+split_fits None rule e = subst HasNumber (same_value split.Whole rule e) tt
+split_fits (Some split_word.Whole) rule e = subst HasNumber (same_value split.Whole rule e) tt
 split_fits (Some (split_word.Every n)) rule e = every_fits n rule e
-split_fits (Some split_word.Auto) rule e = subst SplitFits (same_value split.Auto rule e) tt
+split_fits (Some split_word.Auto) rule e = subst HasNumber (same_value split.Auto rule e) tt
 
 way_fits : (limits : Limits) (way : Rounds × SplitRule) → limits_meant limits ≡ Ok way
-    → (1 ≤ number_of way.0) × (number_of way.0 ≤ 1_000_000) × SplitFits way.1
+    → (1 ≤ number_of way.0) × (number_of way.0 ≤ 1_000_000) × HasNumber way.1
 way_fits limits way e =
     let a = through (rounds_of limits.within limits.number) (λ limit. split_of limits.split >>= λ segments. Ok (limit, segments)) way e in
     let b = through (split_of limits.split) (λ segments. Ok (a.value, segments)) way a.rest in
     let allowed = rounds_fit limits.within limits.number a.value a.first in
-    subst (λ (w : Rounds × SplitRule). (1 ≤ number_of w.0) × (number_of w.0 ≤ 1_000_000) × SplitFits w.1)
+    subst (λ (w : Rounds × SplitRule). (1 ≤ number_of w.0) × (number_of w.0 ≤ 1_000_000) × HasNumber w.1)
     (same_value (a.value, b.value) way b.rest) (allowed.0, allowed.1, split_fits limits.split b.value b.first)
 
 -- ---- statements

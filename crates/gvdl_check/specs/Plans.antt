@@ -37,7 +37,6 @@ use Rattle.gvdl_check.specs.declared.plan.Step.TheVariants as step
 use Rattle.gvdl_check.specs.declared.plan.Plan.{Plan}
 use Rattle.gvdl_check.specs.declared.known.Known.{Known}
 use Rattle.gvdl_check.specs.declared.call.Limits.{Limits}
-use Rattle.gvdl_check.specs.Built.{is_built}
 use Rattle.gvdl_check.specs.Faults.{at}
 use Rattle.gvdl_check.specs.Known.{first_names, loaded, with_step, with_single, with_collection}
 use Rattle.gvdl_check.specs.Known.{views_in}
@@ -208,12 +207,6 @@ statement_added g k (statement.Append target items) = append g k target items
 statement_added g k (statement.ShowOrder name) = show_order k name
 statement_added g k (statement.ShowWork name) = show_work k name
 
--- the same, where what is not built is told before all else
-abbrev pub statement_judged : GraphData → Known → Statement → Judged Known
-statement_judged g k s = do
-  expect (is_built s) refusal.NotBuilt
-  statement_added g k s
-
 abbrev pub plan_of : Known → Plan
 plan_of k = record { collections = k.collections; runs = k.runs; steps = k.steps }
 
@@ -221,7 +214,7 @@ plan_of k = record { collections = k.collections; runs = k.runs; steps = k.steps
 abbrev pub plan_from : GraphData → ℕ → Known → List Statement → Result Plan CheckFault
 plan_from g n k [] = Ok (plan_of k)
 plan_from g n k (s ∷ more) = do
-  next ← at n (statement_judged g k s)
+  next ← at n (statement_added g k s)
   plan_from g (n + 1) next more
 
 -- statement 1 is the load

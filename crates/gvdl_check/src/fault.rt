@@ -14,9 +14,6 @@ pub enum CheckFault {
     /// The script has this fault, which is its first. Its number is that of a statement, from 1; the load is statement 1.
     #[error("{0}")]
     Fault(ScriptFault),
-    /// No statement before this one has a fault, and this one is not built yet. Statements count from 1.
-    #[error("statement {0} is not built")]
-    NotBuilt(u32),
     /// A request for memory was refused.
     #[error("out of memory")]
     NoMemory,
@@ -37,7 +34,6 @@ fn fault_at(refusal: Refusal, statement: u32) -> CheckFault
     ensures { result ≡ fault_at statement refusal }
 {
     match refusal {
-        Refusal::NotBuilt => CheckFault::NotBuilt(statement),
         Refusal::UnknownName => CheckFault::Fault(ScriptFault::UnknownName(statement)),
         Refusal::RepeatedName => CheckFault::Fault(ScriptFault::RepeatedName(statement)),
         Refusal::UnknownProperty => CheckFault::Fault(ScriptFault::UnknownProperty(statement)),

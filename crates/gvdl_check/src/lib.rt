@@ -6,12 +6,10 @@
 //! It offers [`check`] and the [`Plan`] that it answers: views with the predicates of all views that they stand on, with
 //! properties as columns, and what each statement asks for. The rooms above run a plan and judge nothing more.
 //! Its model is `specs/Plans.antt`: statements are judged one after the other, each over what is known then, and the first
-//! refusal is the answer. It promises exactly that plan, that fault, or that a statement is not built yet; where it finds
-//! no memory it says so. Names are looked up in a table of hashes, so a script is checked in time of its length and of
+//! refusal is the answer. It promises exactly that plan or that fault; where it finds no memory it says so. Names are looked up in a table of hashes, so a script is checked in time of its length and of
 //! what its plan holds.
 #![tactic(auto)]
 
-mod built;
 mod call;
 mod copies;
 mod fault;

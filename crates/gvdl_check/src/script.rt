@@ -21,9 +21,8 @@ use std::alloc::Global;
 ///
 /// # Errors
 ///
-/// [`CheckFault::Fault`] with the first fault of the script against the graph, exactly where it has one and neither its
-/// statement nor one before that is not built; [`CheckFault::NotBuilt`] with the first statement that is not built, exactly where no
-/// statement before it has a fault; [`CheckFault::NoMemory`] where a request for memory was refused.
+/// [`CheckFault::Fault`] with the first fault of the script against the graph, exactly where it has one;
+/// [`CheckFault::NoMemory`] where a request for memory was refused.
 pub fn check(alloc: Global, script: &Script, graph: &Graph) -> Result<Plan, CheckFault>
     requires written { IsWritten script.now }
     ensures exact { Agrees (plan script.now graph.now) result }

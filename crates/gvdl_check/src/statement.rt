@@ -6,11 +6,10 @@ ghost use Rattle.gvdl_programs.specs.Judging.{Tells, Leaves};
 ghost use Rattle.gvdl_programs.specs.Fits.{ProgramFits};
 ghost use Rattle.gvdl_check.specs.Known.{first_names};
 ghost use Rattle.gvdl_check.specs.Plans.{load, single, collection, views_appended, append, program, program_meant};
-ghost use Rattle.gvdl_check.specs.Plans.{run_planned, run, show_order, show_work, statement_added, statement_judged};
+ghost use Rattle.gvdl_check.specs.Plans.{run_planned, run, show_order, show_work, statement_added};
 ghost use Rattle.gvdl_check.specs.Names.{program_named};
 ghost use Rattle.gvdl_check.specs.Fits.{KnownFits, IsSmall};
 
-use crate::built::is_built;
 use crate::call::{Limits, order_of};
 use crate::copies::{copied_text, copied_words};
 use crate::item::add_items;
@@ -261,8 +260,9 @@ fn add_show_work(known: &mut Known, name: &str) -> Result<(), Stop>
     Ok(())
 }
 
-// Judges a statement, whether or not it is built, over what is known, and notes what is known after it.
-fn add_any(
+/// Judges a statement over what is known, and notes what is known after it. After a refusal nothing is said of what is
+/// known.
+pub(crate) fn add_statement(
     alloc: Global,
     graph: &Graph,
     known: &mut Known,
@@ -321,22 +321,4 @@ fn add_any(
         Statement::ShowOrder { name } => add_show_order(known, name.as_str()),
         Statement::ShowWork { name } => add_show_work(known, name.as_str()),
     }
-}
-
-/// Judges a statement over what is known, and notes what is known after it. After a refusal nothing is said of what is
-/// known.
-pub(crate) fn add_statement(
-    alloc: Global,
-    graph: &Graph,
-    known: &mut Known,
-    statement: &Statement,
-) -> Result<(), Stop>
-    requires fits { KnownFits graph.now known.old }
-    requires small { IsSmall (2 ^ 32 - 1) known.old }
-    ensures { Leaves (statement_judged graph.now known.old statement.now) result known.new }
-{
-    if !is_built(statement) {
-        return Err(Stop::Refused(Refusal::NotBuilt));
-    }
-    add_any(alloc, graph, known, statement)
 }

@@ -8,8 +8,6 @@ use surge_outside::NoMemory;
 /// Why a statement is refused.
 #[derive(Clone, Copy, Debug, PartialEq, Eq)]
 pub enum Refusal {
-    /// What it asks for is not built yet.
-    NotBuilt,
     /// A name that stands for nothing, or for something of another kind, or that is not allowed at its place.
     UnknownName,
     /// A name that is taken.

@@ -152,11 +152,20 @@ fn the_first_fault_of_programs_and_runs_is_told(rt: HostRuntime) -> Result<(), F
             "run wcc on C for 1 round keep as K; create view K on X edges where true;",
             "RepeatedName 4",
         ),
-        ("run nope on D for 0 rounds split none;", "NotBuilt 3"),
+        ("run nope on D for 0 rounds split every 0;", "UnknownName 3"),
         (
             "show work X; create view G on G edges where true;",
-            "NotBuilt 3",
+            "UnknownName 3",
         ),
+        (
+            "run hops(1) on C for 1 round split every 0 keep as G;",
+            "BadSplit 3",
+        ),
+        (
+            "run hops(1) on C for 0 rounds split every 0;",
+            "BadRounds 3",
+        ),
+        ("run wcc on C for 1 round; show work C;", "UnknownName 4"),
         (
             "create view G on G edges where true; show work X;",
             "RepeatedName 3",

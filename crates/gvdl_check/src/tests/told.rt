@@ -194,7 +194,6 @@ fn fault_text(alloc: Global, fault: CheckFault) -> Result<String, AllocError> {
         CheckFault::Fault(ScriptFault::TooManyKept(n)) => format!(in alloc; "TooManyKept {n}"),
         CheckFault::Fault(ScriptFault::BadSplit(n)) => format!(in alloc; "BadSplit {n}"),
         CheckFault::Fault(_) => format!(in alloc; "another fault"),
-        CheckFault::NotBuilt(n) => format!(in alloc; "NotBuilt {n}"),
         CheckFault::NoMemory => format!(in alloc; "no memory"),
     }
 }
