@@ -1,6 +1,6 @@
 -- A plan that is continued prints what it printed, and more.
 use Rattle.std.proofs.Common.{◌≡◌, ◌∙◌, ◌+◌, ◌-◌, ◌<◌, ◌≤◌, ℕ, zero, suc, List, [], ◌∷◌, ◌++◌, length, take, drop, get_or, Option, Some, None, slice_get, refl, sym, ap, ap₂, subst, arith, flat_map, add-one, length-append}
-use Rattle.std.specs.Prelude.{sum_by, All, ◌==◌, if◌then◌else◌}
+use Rattle.std.specs.Prelude.{sum_by, All, ◌==◌, ◌&&◌, nat_lt, if◌then◌else◌}
 use Rattle.std.specs.List.{range_with_len}
 use Rattle.std.proofs.Math.Seq.{take-add}
 use Rattle.std.proofs.lemmas.List.{take-append-le}
@@ -23,15 +23,17 @@ use Rattle.gvdl_check.specs.declared.plan.Step.{Step}
 use Rattle.gvdl_check.specs.declared.plan.Step.TheVariants as step
 use Rattle.gvdl_check.specs.declared.plan.Plan.{Plan}
 use Rattle.gvdl_check.specs.Known.{collection_plan}
-use Rattle.gvdl_check.specs.Steps.{gives, views_at, StepFits}
+use Rattle.gvdl_check.specs.Steps.{gives, runs, views_at, runs_at, StepFits}
 use Rattle.gvdl_check.specs.Fits.{RunFits, PlanFits}
 use Rattle.gvdl_printer.specs.Canonical.{canonical_call}
-use Rattle.result_tables.specs.TableText.{table_of, head_text, table_text}
+use Rattle.result_tables.specs.declared.form.Form.{Form}
+use Rattle.result_tables.specs.TableText.{table_of, head_text, form_text}
 use Rattle.edge_predicates.specs.ViewEdges.{view_edges}
-use Rattle.surge_session.specs.Output.{list_of, view_text, tables_text, views_before, views_added, kept_as, keeps, kept_at, run_text, kept_text, order_text, text_of, step_text, plan_text}
+use Rattle.view_engine.specs.Splits.{segments_of}
+use Rattle.surge_session.specs.Output.{list_of, view_text, tables_text, views_before, views_added, made_at, kept_as, keeps, kept_at, first_order, longer_order, order_after, order_at, run_task, task_at, segments_at, named_work, run_text, kept_text, order_text, work_text, text_of, step_text, plan_text}
 use Rattle.gvdl_check.specs.Continued.{IsFront, GrowsTo, Continues}
 use Rattle.surge_session.specs.Continuing.{Runs, IsAgain, KeepsTexts}
-use Rattle.surge_session.proofs.Places.{kept_more}
+use Rattle.surge_session.proofs.Places.{kept_more, made_with}
 use Rattle.surge_session.proofs.Texts.{found, any_default, range-add, run_with, append_with, shown_with, step_is, run_step_is}
 
 no_collection : CollectionPlan
@@ -43,6 +45,7 @@ abbrev StepKnows : Plan → Step → Type 0
 StepKnows p (step.Run place) = place < length p.runs
 StepKnows p (step.Append place first count) = place < length p.collections
 StepKnows p (step.ShowOrder place) = place < length p.collections
+StepKnows p (step.ShowWork place) = place < length p.runs
 StepKnows p _ = Unit {0}
 
 knows : (p : Plan) (n : ℕ) (s : Step) → StepFits p n s → StepKnows p s
@@ -51,7 +54,7 @@ knows p n (step.Make place count) h = tt
 knows p n (step.Run place) h = h.1
 knows p n (step.Append place first count) h = h.1
 knows p n (step.ShowOrder place) h = h.1
-knows p n (step.ShowWork place) h = tt
+knows p n (step.ShowWork place) h = h.1
 
 -- a collection has no more views at a statement than in all
 views_there : (g : GraphData) (p : Plan) → PlanFits g p → (n place : ℕ) (c : CollectionPlan) → slice_get p.collections place ≡ Some c → views_at p n place ≤ length c.views
@@ -90,19 +93,19 @@ record IsSameRun (first second : RunPlan) : Type 0 where
   rounds : second.rounds ≡ first.rounds
 
 -- what a run prints, by its call, its program and its rounds
-abbrev printed : Answer → GraphData → List ℕ → List ViewPlan → Call → Program → Rounds → List ℕ
-printed answer g name views call program rounds =
-    flat_map (λ (view : ViewPlan). table_text (head_text name view.name (canonical_call call)) g (table_of (answer_of answer program g (arcs_between program.along g (view_edges g view.rule)) rounds))) views
+abbrev printed : Answer → Form → GraphData → List ℕ → List ViewPlan → Call → Program → Rounds → List ℕ
+printed answer form g name views call program rounds =
+    flat_map (λ (view : ViewPlan). form_text form (head_text name view.name (canonical_call call)) (length (view_edges g view.rule)) g (table_of (answer_of answer program g (arcs_between program.along g (view_edges g view.rule)) rounds))) views
 
-made_again : (answer : Answer) (g : GraphData) (first second : RunPlan) (name : List ℕ) (views : List ViewPlan) → IsSameRun first second → tables_text answer g second name views ≡ tables_text answer g first name views
-made_again answer g first second name views same =
-    ap (λ (c : Call). printed answer g name views c second.program second.rounds) same.call
-    ∙ ap (λ (p : Program). printed answer g name views first.call p second.rounds) same.program
-    ∙ ap (λ (r : Rounds). printed answer g name views first.call first.program r) same.rounds
+made_again : (answer : Answer) (form : Form) (g : GraphData) (first second : RunPlan) (name : List ℕ) (views : List ViewPlan) → IsSameRun first second → tables_text answer form g second name views ≡ tables_text answer form g first name views
+made_again answer form g first second name views same =
+    ap (λ (c : Call). printed answer form g name views c second.program second.rounds) same.call
+    ∙ ap (λ (p : Program). printed answer form g name views first.call p second.rounds) same.program
+    ∙ ap (λ (r : Rounds). printed answer form g name views first.call first.program r) same.rounds
 
 -- ---- a plan and one that continues it
 
-module _ (answer : Answer) (g : GraphData) (p q : Plan) (fits : PlanFits g p) (more : Continues p q) where
+module _ (answer : Answer) (form : Form) (g : GraphData) (p q : Plan) (fits : PlanFits g p) (more : Continues p q) where
   same_steps : (n : ℕ) → n ≤ length p.steps → take n q.steps ≡ take n p.steps
   same_steps n le = ap (λ (ss : List Step). take n ss) more.steps.1 ∙ take-append-le n p.steps more.steps.0 le
 
@@ -194,16 +197,16 @@ module _ (answer : Answer) (g : GraphData) (p q : Plan) (fits : PlanFits g p) (m
 
   -- ---- statements
 
-  same_run_text : (n : ℕ) (run : RunPlan) → n ≤ length p.steps → run.collection < length p.collections → run_text answer g q n run ≡ run_text answer g p n run
+  same_run_text : (n : ℕ) (run : RunPlan) → n ≤ length p.steps → run.collection < length p.collections → run_text answer form g q n run ≡ run_text answer form g p n run
   same_run_text n run le lt =
       let c = get_or p.collections run.collection (no_collection) in
       let at : slice_get p.collections run.collection ≡ Some c = got p.collections run.collection (no_collection) lt in
-      run_with answer g q n run (Some (d run.collection c at)) (after_at run.collection c at)
-      ∙ ap₂ (λ (name : List ℕ) (views : List ViewPlan). tables_text answer g run name views) (grows run.collection c at).name (same_before run.collection c at n le)
-      ∙ sym (run_with answer g p n run (Some c) at)
+      run_with answer form g q n run (Some (d run.collection c at)) (after_at run.collection c at)
+      ∙ ap₂ (λ (name : List ℕ) (views : List ViewPlan). tables_text answer form g run name views) (grows run.collection c at).name (same_before run.collection c at n le)
+      ∙ sym (run_with answer form g p n run (Some c) at)
 
   same_maybe : (n : ℕ) (run : Option RunPlan) → n ≤ length p.steps → ((r : RunPlan) → run ≡ Some r → r.collection < length p.collections)
-      → list_of (run_text answer g q n) run ≡ list_of (run_text answer g p n) run
+      → list_of (run_text answer form g q n) run ≡ list_of (run_text answer form g p n) run
   same_maybe n None le within = refl
   same_maybe n (Some run) le within = same_run_text n run le (within run refl)
 
@@ -212,29 +215,81 @@ module _ (answer : Answer) (g : GraphData) (p q : Plan) (fits : PlanFits g p) (m
       let here : RunFits g (length p.collections) run = subst (λ (r : RunPlan). RunFits g (length p.collections) r) (get_or_from_slice_get p.runs place run run at) (fits.runs place run (slice_get_within p.runs place run at)) in
       here.collection
 
-  same_kept_text : (name : List ℕ) (added : List ViewPlan) (place kept : ℕ) → kept < length p.runs → kept_text answer g q name added place kept ≡ kept_text answer g p name added place kept
+  same_kept_text : (name : List ℕ) (added : List ViewPlan) (place kept : ℕ) → kept < length p.runs → kept_text answer form g q name added place kept ≡ kept_text answer form g p name added place kept
   same_kept_text name added place kept lt =
-      ap (λ (o : Option RunPlan). list_of (λ (r : RunPlan). if r.collection == place then tables_text answer g r name added else []) o) (same_run kept lt)
+      ap (λ (o : Option RunPlan). list_of (λ (r : RunPlan). if r.collection == place then tables_text answer form g r name added else []) o) (same_run kept lt)
 
-  same_append_text : (n place : ℕ) → n < length p.steps → place < length p.collections → text_of answer g q n (step.Append place 0 0) ≡ text_of answer g p n (step.Append place 0 0)
+  same_append_text : (n place : ℕ) → n < length p.steps → place < length p.collections → text_of answer form g q n (step.Append place 0 0) ≡ text_of answer form g p n (step.Append place 0 0)
   same_append_text n place lt within =
       let c = get_or p.collections place (no_collection) in
       let at : slice_get p.collections place ≡ Some c = got p.collections place (no_collection) within in
       let after = d place c at in
       let le : n ≤ length p.steps = omega (arith, lt) in
-      append_with answer g q n place (Some after) (after_at place c at)
-      ∙ ap (λ (name : List ℕ). flat_map (kept_text answer g q name (views_added q n after place) place) (kept_at q n)) (grows place c at).name
-      ∙ ap (λ (views : List ViewPlan). flat_map (kept_text answer g q c.name views place) (kept_at q n)) (same_added place c at n lt)
-      ∙ ap (λ (ks : List ℕ). flat_map (kept_text answer g q c.name (views_added p n c place) place) ks) (same_kept n le)
-      ∙ same_pieces (kept_text answer g q c.name (views_added p n c place) place) (kept_text answer g p c.name (views_added p n c place) place) (kept_at p n)
+      append_with answer form g q n place (Some after) (after_at place c at)
+      ∙ ap (λ (name : List ℕ). flat_map (kept_text answer form g q name (views_added q n after place) place) (kept_at q n)) (grows place c at).name
+      ∙ ap (λ (views : List ViewPlan). flat_map (kept_text answer form g q c.name views place) (kept_at q n)) (same_added place c at n lt)
+      ∙ ap (λ (ks : List ℕ). flat_map (kept_text answer form g q c.name (views_added p n c place) place) ks) (same_kept n le)
+      ∙ same_pieces (kept_text answer form g q c.name (views_added p n c place) place) (kept_text answer form g p c.name (views_added p n c place) place) (kept_at p n)
       (λ k x h. same_kept_text c.name (views_added p n c place) place (get_or (kept_at p n) k x) (kept_within n le k x h))
-      ∙ sym (append_with answer g p n place (Some c) at)
+      ∙ sym (append_with answer form g p n place (Some c) at)
 
-  same_text : (n : ℕ) (s : Step) → n < length p.steps → StepKnows p s → text_of answer g q n s ≡ text_of answer g p n s
+  -- ---- the work of a run
+
+  same_made : (n place : ℕ) → n ≤ length p.steps → place < length p.collections → made_at q n place ≡ made_at p n place
+  same_made n place le within =
+      let c = get_or p.collections place (no_collection) in
+      let at : slice_get p.collections place ≡ Some c = got p.collections place (no_collection) within in
+      made_with q n place (Some (d place c at)) (after_at place c at) ∙ same_before place c at n le ∙ sym (made_with p n place (Some c) at)
+
+  same_earlier : (n : ℕ) → n ≤ length p.steps → runs_at q n ≡ runs_at p n
+  same_earlier n le = ap (sum_by runs) (same_steps n le)
+
+  module _ (run : RunPlan) (place : ℕ) (within : run.collection < length p.collections) where
+    same_after : (n : ℕ) (before : List ℕ) (s : Step) → n < length p.steps → order_after g q run place n before (Some s) ≡ order_after g p run place n before (Some s)
+    same_after n before step.Nothing lt = refl
+    same_after n before (step.Make other count) lt = refl
+    same_after n before (step.Run other) lt =
+        ap (λ (views : List ViewPlan). if other == place then first_order g run views else before) (same_made (n + 1) run.collection (omega (arith, lt)) within)
+    same_after n before (step.Append collection first count) lt =
+        ap (λ (k : ℕ). if nat_lt place k && collection == run.collection then longer_order g run (made_at q (n + 1) run.collection) before (length (made_at q n run.collection)) else before) (same_earlier n (omega (arith, lt)))
+        ∙ ap (λ (views : List ViewPlan). if nat_lt place (runs_at p n) && collection == run.collection then longer_order g run views before (length (made_at q n run.collection)) else before) (same_made (n + 1) run.collection (omega (arith, lt)) within)
+        ∙ ap (λ (views : List ViewPlan). if nat_lt place (runs_at p n) && collection == run.collection then longer_order g run (made_at p (n + 1) run.collection) before (length views) else before) (same_made n run.collection (omega (arith, lt)) within)
+    same_after n before (step.ShowOrder other) lt = refl
+    same_after n before (step.ShowWork other) lt = refl
+
+    same_order : (n : ℕ) → n ≤ length p.steps → order_at g q run place n ≡ order_at g p run place n
+    unfolding order_at
+    same_order zero le = refl
+    same_order (suc n) le =
+        let lt : n < length p.steps = omega (arith, le) in
+        let s = get_or p.steps n step.Nothing in
+        ap (order_after g q run place n (order_at g q run place n)) (step_after n lt)
+        ∙ ap (λ (before : List ℕ). order_after g q run place n before (Some s)) (same_order n (omega (arith, le)))
+        ∙ same_after n (order_at g p run place n) s lt
+        ∙ sym (ap (order_after g p run place n (order_at g p run place n)) (step_at n lt))
+
+    abbrev work_of_run : Option (List ℕ) → List ViewPlan → List ℕ → List ℕ
+    work_of_run name views order = list_of (λ (x : List ℕ). named_work x (run_task answer g run views) views (segments_of (run_task answer g run views) run.split order)) name
+
+    same_work_of : (n : ℕ) → n ≤ length p.steps → work_of_run run.keep (made_at q n run.collection) (order_at g q run place n) ≡ work_of_run run.keep (made_at p n run.collection) (order_at g p run place n)
+    same_work_of n le = ap₂ (work_of_run run.keep) (same_made n run.collection le within) (same_order n le)
+
+  same_maybe_work : (n place : ℕ) (run : Option RunPlan) → n ≤ length p.steps → ((r : RunPlan) → run ≡ Some r → r.collection < length p.collections)
+      → list_of (λ (r : RunPlan). list_of (λ (x : List ℕ). named_work x (task_at answer g q r n) (made_at q n r.collection) (segments_at answer g q r place n)) r.keep) run
+      ≡ list_of (λ (r : RunPlan). list_of (λ (x : List ℕ). named_work x (task_at answer g p r n) (made_at p n r.collection) (segments_at answer g p r place n)) r.keep) run
+  same_maybe_work n place None le within = refl
+  same_maybe_work n place (Some r) le within = same_work_of r place (within r refl) n le
+
+  same_work_text : (n place : ℕ) → n ≤ length p.steps → place < length p.runs → work_text answer g q n place ≡ work_text answer g p n place
+  same_work_text n place le lt =
+      ap (list_of (λ (r : RunPlan). list_of (λ (x : List ℕ). named_work x (task_at answer g q r n) (made_at q n r.collection) (segments_at answer g q r place n)) r.keep)) (same_run place lt)
+      ∙ same_maybe_work n place (slice_get p.runs place) le (run_within place)
+
+  same_text : (n : ℕ) (s : Step) → n < length p.steps → StepKnows p s → text_of answer form g q n s ≡ text_of answer form g p n s
   same_text n step.Nothing lt h = refl
   same_text n (step.Make place count) lt h = refl
   same_text n (step.Run place) lt h =
-      ap (list_of (run_text answer g q n)) (same_run place h) ∙ same_maybe n (slice_get p.runs place) (omega (arith, lt)) (run_within place)
+      ap (list_of (run_text answer form g q n)) (same_run place h) ∙ same_maybe n (slice_get p.runs place) (omega (arith, lt)) (run_within place)
   same_text n (step.Append place first count) lt h = same_append_text n place lt h
   same_text n (step.ShowOrder place) lt h =
       let c = get_or p.collections place (no_collection) in
@@ -242,31 +297,31 @@ module _ (answer : Answer) (g : GraphData) (p q : Plan) (fits : PlanFits g p) (m
       shown_with g q n place (Some (d place c at)) (after_at place c at)
       ∙ ap₂ (λ (name : List ℕ) (views : List ViewPlan). order_text g name views) (grows place c at).name (same_before place c at n (omega (arith, lt)))
       ∙ sym (shown_with g p n place (Some c) at)
-  same_text n (step.ShowWork place) lt h = refl
+  same_text n (step.ShowWork place) lt h = same_work_text n place (omega (arith, lt)) h
 
-  same_step : (n : ℕ) → n < length p.steps → step_text answer g q n ≡ step_text answer g p n
+  same_step : (n : ℕ) → n < length p.steps → step_text answer form g q n ≡ step_text answer form g p n
   same_step n lt =
       let s = get_or p.steps n step.Nothing in
-      step_is answer g q n s (step_after n lt) ∙ same_text n s lt (known n lt) ∙ sym (step_is answer g p n s (step_at n lt))
+      step_is answer form g q n s (step_after n lt) ∙ same_text n s lt (known n lt) ∙ sym (step_is answer form g p n s (step_at n lt))
 
   -- ---- the output
 
   steps_in_all : length q.steps ≡ length p.steps + length more.steps.0
   steps_in_all = ap (λ (ss : List Step). length ss) more.steps.1 ∙ length-append p.steps more.steps.0
 
-  in_range : (k x : ℕ) → k < length (range_with_len 0 (length p.steps)) → step_text answer g q (get_or (range_with_len 0 (length p.steps)) k x) ≡ step_text answer g p (get_or (range_with_len 0 (length p.steps)) k x)
+  in_range : (k x : ℕ) → k < length (range_with_len 0 (length p.steps)) → step_text answer form g q (get_or (range_with_len 0 (length p.steps)) k x) ≡ step_text answer form g p (get_or (range_with_len 0 (length p.steps)) k x)
   in_range k x lt =
       let within : k < length p.steps = omega (arith, lt, length-range_with_len 0 (length p.steps)) in
       let is : get_or (range_with_len 0 (length p.steps)) k x ≡ k = get_or-range_with_len 0 (length p.steps) k x within ∙ omega arith in
-      subst (λ (i : ℕ). step_text answer g q i ≡ step_text answer g p i) (sym is) (same_step k within)
+      subst (λ (i : ℕ). step_text answer form g q i ≡ step_text answer form g p i) (sym is) (same_step k within)
 
-  output_grows : IsFront (plan_text answer g p) (plan_text answer g q)
+  output_grows : IsFront (plan_text answer form g p) (plan_text answer form g q)
   output_grows = (
-    flat_map (step_text answer g q) (range_with_len (0 + length p.steps) (length more.steps.0)),
-    ap (λ (k : ℕ). flat_map (step_text answer g q) (range_with_len 0 k)) steps_in_all
-        ∙ ap (flat_map (step_text answer g q)) (range-add 0 (length p.steps) (length more.steps.0))
-        ∙ flat_map-append (step_text answer g q) (range_with_len 0 (length p.steps)) (range_with_len (0 + length p.steps) (length more.steps.0))
-        ∙ ap (λ (x : List ℕ). x ++ flat_map (step_text answer g q) (range_with_len (0 + length p.steps) (length more.steps.0))) (same_pieces (step_text answer g q) (step_text answer g p) (range_with_len 0 (length p.steps)) in_range),
+    flat_map (step_text answer form g q) (range_with_len (0 + length p.steps) (length more.steps.0)),
+    ap (λ (k : ℕ). flat_map (step_text answer form g q) (range_with_len 0 k)) steps_in_all
+        ∙ ap (flat_map (step_text answer form g q)) (range-add 0 (length p.steps) (length more.steps.0))
+        ∙ flat_map-append (step_text answer form g q) (range_with_len 0 (length p.steps)) (range_with_len (0 + length p.steps) (length more.steps.0))
+        ∙ ap (λ (x : List ℕ). x ++ flat_map (step_text answer form g q) (range_with_len (0 + length p.steps) (length more.steps.0))) (same_pieces (step_text answer form g q) (step_text answer form g p) (range_with_len 0 (length p.steps)) in_range),
   )
 
   -- ---- a run that is made again
@@ -304,16 +359,16 @@ module _ (answer : Answer) (g : GraphData) (p q : Plan) (fits : PlanFits g p) (m
     unfolding after
     second_at = ap (λ (k : ℕ). slice_get q.collections k) same.collection ∙ after_at first.collection c at
 
-    run_grows : IsFront (run_text answer g p m first) (run_text answer g q n second)
+    run_grows : IsFront (run_text answer form g p m first) (run_text answer form g q n second)
     unfolding after
     run_grows = (
-      tables_text answer g first c.name added,
-      run_with answer g q n second (Some after) second_at
-          ∙ ap (λ (k : ℕ). tables_text answer g second after.name (views_before q n after k)) same.collection
-          ∙ ap₂ (λ (name : List ℕ) (views : List ViewPlan). tables_text answer g second name views) (grows first.collection c at).name views_grow
-          ∙ made_again answer g first second c.name (views_before p m c first.collection ++ added) same
-          ∙ flat_map-append (view_text answer g first c.name) (views_before p m c first.collection) added
-          ∙ ap (λ (x : List ℕ). x ++ tables_text answer g first c.name added) (sym (run_with answer g p m first (Some c) at)),
+      tables_text answer form g first c.name added,
+      run_with answer form g q n second (Some after) second_at
+          ∙ ap (λ (k : ℕ). tables_text answer form g second after.name (views_before q n after k)) same.collection
+          ∙ ap₂ (λ (name : List ℕ) (views : List ViewPlan). tables_text answer form g second name views) (grows first.collection c at).name views_grow
+          ∙ made_again answer form g first second c.name (views_before p m c first.collection ++ added) same
+          ∙ flat_map-append (view_text answer form g first c.name) (views_before p m c first.collection) added
+          ∙ ap (λ (x : List ℕ). x ++ tables_text answer form g first c.name added) (sym (run_with answer form g p m first (Some c) at)),
     )
 
   same_program : (m n : ℕ) (first second : RunPlan) → Runs p m first → Runs q n second → IsAgain first second → IsSameRun first second
@@ -321,14 +376,17 @@ module _ (answer : Answer) (g : GraphData) (p q : Plan) (fits : PlanFits g p) (m
       let early : slice_get q.runs a.place ≡ Some first = same_run a.place (slice_get_within p.runs a.place first a.run) ∙ a.run in
       record { collection = again.collection; call = again.call; program = more.calls a.place b.place first second early b.run again.call; rounds = again.rounds }
 
-  run_again : (m n : ℕ) (first second : RunPlan) → m ≤ n → Runs p m first → Runs q n second → IsAgain first second → IsFront (step_text answer g p m) (step_text answer g q n)
+  run_again : (m n : ℕ) (first second : RunPlan) → m ≤ n → Runs p m first → Runs q n second → IsAgain first second → IsFront (step_text answer form g p m) (step_text answer form g q n)
   run_again m n first second later a b again =
-      let before : step_text answer g p m ≡ run_text answer g p m first = run_step_is answer g p m a.place (Some first) a.step a.run in
-      let after : step_text answer g q n ≡ run_text answer g q n second = run_step_is answer g q n b.place (Some second) b.step b.run in
+      let before : step_text answer form g p m ≡ run_text answer form g p m first = run_step_is answer form g p m a.place (Some first) a.step a.run in
+      let after : step_text answer form g q n ≡ run_text answer form g q n second = run_step_is answer form g q n b.place (Some second) b.step b.run in
       let le : m ≤ length p.steps = omega (arith, slice_get_within p.steps m (step.Run a.place) a.step) in
-      subst (λ (text : List ℕ). IsFront text (step_text answer g q n)) (sym before)
-      (subst (λ (text : List ℕ). IsFront (run_text answer g p m first) text) (sym after)
+      subst (λ (text : List ℕ). IsFront text (step_text answer form g q n)) (sym before)
+      (subst (λ (text : List ℕ). IsFront (run_text answer form g p m first) text) (sym after)
       (run_grows m n first second le later (run_within a.place first a.run) (same_program m n first second a b again)))
 
-  pub keeps_texts : KeepsTexts answer g p q
-  keeps_texts = record { output = output_grows; runs = run_again }
+pub keeps_texts : (answer : Answer) (g : GraphData) (p q : Plan) → PlanFits g p → Continues p q → KeepsTexts answer g p q
+keeps_texts answer g p q fits more = record {
+  output = λ form. output_grows answer form g p q fits more;
+  runs = λ form. run_again answer form g p q fits more;
+}

@@ -3,6 +3,13 @@ pub mod Written
 pub mod Texts
 pub mod ViewEdges
 pub mod Places
+pub mod Keeping
 pub mod Ordering
+pub mod Distinct
+pub mod Running
+pub mod RunOrders
+pub mod WorkTexts
+pub mod Stating
+pub mod Lending
 pub mod Walking
 pub mod Continued

@@ -1,5 +1,5 @@
 -- The greedy order by the distances of a matrix, and its lines.
-use Rattle.std.proofs.Common.{◌≡◌, ◌∙◌, ◌+◌, ◌<◌, ◌≤◌, ℕ, zero, suc, List, [], ◌∷◌, ◌++◌, length, take, map, get_or, filter, flat_map, Bool, true, false, cond, ◌&&◌, Option, Some, None, slice_get, refl, sym, ap, ap₂, arith, append-nil, codes}
+use Rattle.std.proofs.Common.{◌≡◌, ◌∙◌, ◌+◌, ◌-◌, ◌<◌, ◌≤◌, ℕ, zero, suc, List, [], ◌∷◌, ◌++◌, length, take, map, get_or, filter, flat_map, Bool, true, false, cond, ◌&&◌, Option, Some, None, slice_get, refl, sym, ap, ap₂, arith, append-nil, codes}
 use mathlib.Core.Path.{fun_ext}
 use Rattle.std.specs.Prelude.{sum_by}
 use Rattle.std.specs.List.{last_or}
@@ -12,7 +12,7 @@ use Rattle.graph_model.specs.declared.number.ViewNo.{ViewNo}
 use Rattle.graph_model.specs.GraphData.{GraphData}
 use Rattle.edge_predicates.specs.ViewEdges.{view_edges}
 use Rattle.gvdl_check.specs.declared.plan.ViewPlan.{ViewPlan}
-use Rattle.view_matrix.specs.Matrices.{MatrixData, bit_of, live_of, all_edges, column_edges, edges_in, distance_of, in_exactly_one}
+use Rattle.view_matrix.specs.Matrices.{MatrixData, bit_of, live_of, all_edges, column_edges, edges_in, distance_of, in_exactly_one, place_of}
 use Rattle.view_matrix.specs.Laws.{distance_of-lists}
 use Rattle.view_order.specs.Greedy.{greedy, numbers}
 use Rattle.view_order.specs.Places.{view}
@@ -43,7 +43,7 @@ module _ (g : GraphData) (m : MatrixData) (views : List ViewPlan) (shows : Shows
   edges_of_view v None at = none_kept (λ (e : EdgeNo). bit_of m e.0 v) (all_edges m) (no_bit v (omega (arith, all, past views v at)))
   edges_of_view v (Some view) at = ap (edges_in m) (let e : v ≡ 0 + v = omega arith in e) ∙ (shows v view at).1
 
-  edges_here : (v : ℕ) → edges_in m v ≡ edges_at g views (Some v)
+  pub edges_here : (v : ℕ) → edges_in m v ≡ edges_at g views (Some v)
   edges_here v = edges_of_view v (slice_get views v) refl
 
   column_here : (before : Option ℕ) → column_edges m before ≡ edges_at g views before
@@ -89,3 +89,13 @@ line_more views lines v x distance old new name item more so_far named at is =
 
 pub total_more : (lines : List (ℕ × ℕ)) (v x distance total : ℕ) → total ≡ sum_by (λ (line : ℕ × ℕ). line.1) lines → x ≡ distance → total + x ≡ sum_by (λ (line : ℕ × ℕ). line.1) (lines ++ (v, distance) ∷ [])
 total_more lines v x distance total so_far is = omega (arith, so_far, is, sum_by-append (λ (line : ℕ × ℕ). line.1) lines ((v, distance) ∷ []))
+
+-- ---- the last view
+
+last_from : (v : ViewNo) (vs : List ViewNo) → place_of (slice_get (v ∷ vs) (length vs)) ≡ last_or (Some v.0) (numbers vs)
+last_from v [] = refl
+last_from v (w ∷ ws) = last_from w ws
+
+pub last_place : (vs : List ViewNo) → place_of (slice_get vs (length vs - 1)) ≡ last_or None (numbers vs)
+last_place [] = refl
+last_place (v ∷ vs) = ap (λ (k : ℕ). place_of (slice_get (v ∷ vs) k)) (let e : length (v ∷ vs) - 1 ≡ length vs = omega arith in e) ∙ last_from v vs

@@ -17,11 +17,11 @@ use Rattle.gvdl_check.specs.declared.plan.RunPlan.{RunPlan}
 use Rattle.gvdl_check.specs.declared.plan.Step.{Step}
 use Rattle.gvdl_check.specs.declared.plan.Step.TheVariants as step
 use Rattle.gvdl_check.specs.declared.plan.Plan.{Plan}
-use Rattle.gvdl_check.specs.Steps.{gives, views_at}
+use Rattle.gvdl_check.specs.Steps.{gives, runs, views_at, runs_at}
 use Rattle.view_matrix.specs.Matrices.{MatrixData, matrix_of, rule_column, rule_columns, with_views}
 use Rattle.view_matrix.specs.Laws.{ShowsViews}
-use Rattle.surge_session.specs.Output.{list_of, views_before, views_added, keeps, kept_as, kept_at}
-use Rattle.surge_session.specs.State.{made_at, rules_of, Shows, IsAt}
+use Rattle.surge_session.specs.Output.{list_of, views_before, views_added, made_at, keeps, kept_as, kept_at}
+use Rattle.surge_session.specs.State.{rules_of, Shows, MatricesAt}
 use Rattle.surge_session.proofs.Growing.{one_more}
 use Rattle.surge_session.proofs.Texts.{found}
 use Rattle.surge_session.proofs.ViewEdges.{as_many, shown_from}
@@ -31,6 +31,10 @@ use Rattle.surge_session.proofs.ViewEdges.{as_many, shown_from}
 pub views_more : (p : Plan) (n place : ℕ) (s : Step) → slice_get p.steps n ≡ Some s → views_at p (n + 1) place ≡ views_at p n place + gives place s
 views_more p n place s at =
     ap (sum_by (gives place)) (one_more p.steps n s (slice_get_within p.steps n s at) at) ∙ sum_by-append (gives place) (take n p.steps) (s ∷ []) ∙ omega arith
+
+pub runs_more : (p : Plan) (n : ℕ) (s : Step) → slice_get p.steps n ≡ Some s → runs_at p (n + 1) ≡ runs_at p n + runs s
+runs_more p n s at =
+    ap (sum_by runs) (one_more p.steps n s (slice_get_within p.steps n s at) at) ∙ sum_by-append runs (take n p.steps) (s ∷ []) ∙ omega arith
 
 pub kept_more : (p : Plan) (n : ℕ) (s : Step) → slice_get p.steps n ≡ Some s → kept_at p (n + 1) ≡ kept_at p n ++ keeps p s
 kept_more p n s at =
@@ -66,6 +70,14 @@ count_within p n place c at = omega (arith, count_of p n place c at)
 pub count_rises : (p : Plan) (n place : ℕ) (c : CollectionPlan) → slice_get p.collections place ≡ Some c → views_at p n place ≤ views_at p (n + 1) place → length (made_at p n place) ≤ length (made_at p (n + 1) place)
 count_rises p n place c at le = omega (arith, count_of p n place c at, count_of p (n + 1) place c at, le)
 
+rises_by : (p : Plan) (n place : ℕ) (c : Option CollectionPlan) → slice_get p.collections place ≡ c → views_at p n place ≤ views_at p (n + 1) place → length (made_at p n place) ≤ length (made_at p (n + 1) place)
+rises_by p n place None at le = omega (arith, ap (λ (views : List ViewPlan). length views) (made_with p n place None at))
+rises_by p n place (Some c) at le = count_rises p n place c at le
+
+-- a collection has no fewer views behind a statement
+pub made_rises : (p : Plan) (n place : ℕ) (s : Step) → slice_get p.steps n ≡ Some s → length (made_at p n place) ≤ length (made_at p (n + 1) place)
+made_rises p n place s at = rises_by p n place (slice_get p.collections place) refl (omega (arith, views_more p n place s at))
+
 -- the first views of the collection, as many as it has
 pub first_of : (p : Plan) (n place : ℕ) (c : CollectionPlan) → slice_get p.collections place ≡ Some c → take (length (made_at p n place)) c.views ≡ views_before p n c place
 first_of p n place c at = ap (λ (k : ℕ). take k c.views) (count_of p n place c at) ∙ take_min (views_at p n place) c.views
@@ -74,7 +86,7 @@ pub first_range : (p : Plan) (n place : ℕ) (c : CollectionPlan) → slice_get 
 first_range p n place c at = ap (λ (k : ℕ). take k c.views) (let e : length (made_at p n place) - 0 ≡ length (made_at p n place) = omega arith in e) ∙ first_of p n place c at
 
 -- a part of a list, as the front of it less a shorter front
-part : (views : List ViewPlan) (a b : ℕ) → a ≤ b → slice_range views a b ≡ drop a (take b views)
+pub part : (views : List ViewPlan) (a b : ℕ) → a ≤ b → slice_range views a b ≡ drop a (take b views)
 part views a b le = sym (drop-take a (b - a) views) ∙ ap (λ (k : ℕ). drop a (take k views)) (let e : a + (b - a) ≡ b = omega (arith, le) in e)
 
 module _ (p : Plan) (n place : ℕ) (c : CollectionPlan) (at : slice_get p.collections place ≡ Some c) (le : views_at p n place ≤ views_at p (n + 1) place) where
@@ -94,11 +106,10 @@ module _ (p : Plan) (n place : ℕ) (c : CollectionPlan) (at : slice_get p.colle
 
 -- ---- the state behind a statement that gives no views
 
-pub passed : (g : GraphData) (p : Plan) (n : ℕ) (made : List MatrixData) (kept : List ℕ) → ((place : ℕ) → views_at p (n + 1) place ≡ views_at p n place) → kept_at p (n + 1) ≡ kept_at p n → IsAt g p n made kept → IsAt g p (n + 1) made kept
-passed g p n made kept views same is = record {
+pub matrices_passed : (g : GraphData) (p : Plan) (n : ℕ) (made : List MatrixData) → ((place : ℕ) → views_at p (n + 1) place ≡ views_at p n place) → MatricesAt g p n made → MatricesAt g p (n + 1) made
+matrices_passed g p n made views is = record {
   all = is.all;
   shows = λ place m at. subst (λ (vs : List ViewPlan). ShowsViews g (rules_of vs) m) (sym (made_same p n place (views place))) (is.shows place m at);
-  kept = is.kept ∙ sym same;
 }
 
 -- the run at this place is kept, if it has a name
@@ -118,17 +129,6 @@ keeps_one p place run at e = keeps_of p place (Some run) at ∙ named place run.
 
 pub keeps_none : (p : Plan) (place : ℕ) (run : RunPlan) → slice_get p.runs place ≡ Some run → is_some run.keep ≡ false → keeps p (step.Run place) ≡ []
 keeps_none p place run at e = keeps_of p place (Some run) at ∙ unnamed place run.keep e
-
-pub ran_at : (g : GraphData) (p : Plan) (n place : ℕ) (made : List MatrixData) (kept after : List ℕ) → slice_get p.steps n ≡ Some (step.Run place) → after ≡ kept ++ keeps p (step.Run place) → IsAt g p n made kept → IsAt g p (n + 1) made after
-ran_at g p n place made kept after at e is = record {
-  all = is.all;
-  shows = λ other m h. subst (λ (vs : List ViewPlan). ShowsViews g (rules_of vs) m) (sym (made_same p n other (views_same p n other (step.Run place) at refl))) (is.shows other m h);
-  kept = e ∙ ap (λ (x : List ℕ). x ++ keeps p (step.Run place)) is.kept ∙ sym (kept_more p n (step.Run place) at);
-}
-
--- where nothing is kept
-pub ran_unkept : (g : GraphData) (p : Plan) (n place : ℕ) (made : List MatrixData) (kept : List ℕ) → slice_get p.steps n ≡ Some (step.Run place) → keeps p (step.Run place) ≡ [] → IsAt g p n made kept → IsAt g p (n + 1) made kept
-ran_unkept g p n place made kept at none is = ran_at g p n place made kept kept at (sym (append-nil kept) ∙ ap (λ (x : List ℕ). kept ++ x) (sym none)) is
 
 -- ---- the state behind a statement that gives views
 
@@ -161,10 +161,9 @@ shows_more g before added after m shows e = record {
       ∙ ap (λ (rules : List ViewRule). rule_columns g rules) (sym (map-append (λ (view : ViewPlan). view.rule) before added) ∙ ap rules_of e);
 }
 
-module _ (g : GraphData) (p : Plan) (n place count : ℕ) (c : CollectionPlan) (made : List MatrixData) (kept : List ℕ)
+module _ (g : GraphData) (p : Plan) (n place count : ℕ) (c : CollectionPlan) (made : List MatrixData)
     (views : (other : ℕ) → views_at p (n + 1) other ≡ views_at p n other + (if place == other then count else 0))
-    (same : kept_at p (n + 1) ≡ kept_at p n)
-    (at : slice_get p.collections place ≡ Some c) (is : IsAt g p n made kept)
+    (at : slice_get p.collections place ≡ Some c) (is : MatricesAt g p n made)
     (m : MatrixData) (m_at : slice_get made place ≡ Some m) where
   shown_here : ShowsViews g (rules_of (made_at p (n + 1) place)) (with_views m g (rules_of (slice_range c.views (length m.columns) (min (length c.views) (length m.columns + count)))))
   shown_here =
@@ -191,37 +190,39 @@ module _ (g : GraphData) (p : Plan) (n place count : ℕ) (c : CollectionPlan) (
         let got : x ≡ get_or made other x = sym (get_or_from_slice_get (set made place after) other x x e) ∙ get_or-set_other made place other after x (λ (y : other ≡ place). h.1 (sym y)) in
         shown_elsewhere other x h.1 (found made made other x refl within got)
 
-    pub grown_at : IsAt g p (n + 1) (set made place after) kept
+    pub grown_at : MatricesAt g p (n + 1) (set made place after)
     grown_at = record {
       all = length-set made place after ∙ is.all;
       shows = λ other x e. shown_at other x (eqb_tells place other) e;
-      kept = is.kept ∙ sym same;
     }
 
-pub grown_nothing : (g : GraphData) (p : Plan) (n place count : ℕ) (made : List MatrixData) (kept : List ℕ) → ((other : ℕ) → views_at p (n + 1) other ≡ views_at p n other + (if place == other then count else 0)) → kept_at p (n + 1) ≡ kept_at p n
-    → length p.collections ≤ place → IsAt g p n made kept → IsAt g p (n + 1) made kept
-grown_nothing g p n place count made kept views same le is = record {
+pub grown_nothing : (g : GraphData) (p : Plan) (n place count : ℕ) (made : List MatrixData) → ((other : ℕ) → views_at p (n + 1) other ≡ views_at p n other + (if place == other then count else 0))
+    → length p.collections ≤ place → MatricesAt g p n made → MatricesAt g p (n + 1) made
+grown_nothing g p n place count made views le is = record {
   all = is.all;
   shows = λ other m h.
       let lt : other < length made = slice_get_within made other m h in
       subst (λ (vs : List ViewPlan). ShowsViews g (rules_of vs) m)
       (sym (made_same p n other (omega (arith, views other, other_views place other count (λ (e : place ≡ other). absurd (omega (arith, e, le, lt, is.all))))))) (is.shows other m h);
-  kept = is.kept ∙ sym same;
 }
+
+-- the rules of so many views behind those of the matrix, as far as there are
+abbrev pub views_to_add : List ViewPlan → MatrixData → ℕ → List ViewRule
+views_to_add views m count = rules_of (slice_range views (length m.columns) (min (length views) (length m.columns + count)))
 
 -- ---- how many views the state shows
 
-pub counted : (g : GraphData) (p : Plan) (n place : ℕ) (made : List MatrixData) (kept : List ℕ) (m : MatrixData) → IsAt g p n made kept → slice_get made place ≡ Some m → length m.columns ≡ length (made_at p n place)
-counted g p n place made kept m is at = as_many g (made_at p n place) m (is.shows place m at)
+pub counted : (g : GraphData) (p : Plan) (n place : ℕ) (made : List MatrixData) (m : MatrixData) → MatricesAt g p n made → slice_get made place ≡ Some m → length m.columns ≡ length (made_at p n place)
+counted g p n place made m is at = as_many g (made_at p n place) m (is.shows place m at)
 
-module _ (g : GraphData) (p : Plan) (n place : ℕ) (c : CollectionPlan) (made : List MatrixData) (kept : List ℕ) (m : MatrixData)
-    (at : slice_get p.collections place ≡ Some c) (is : IsAt g p n made kept) (m_at : slice_get made place ≡ Some m) where
+module _ (g : GraphData) (p : Plan) (n place : ℕ) (c : CollectionPlan) (made : List MatrixData) (m : MatrixData)
+    (at : slice_get p.collections place ≡ Some c) (is : MatricesAt g p n made) (m_at : slice_get made place ≡ Some m) where
   shows_all : ShowsViews g (rules_of (views_before p n c place)) m
   shows_all = subst (λ (vs : List ViewPlan). ShowsViews g (rules_of vs) m) (made_with p n place (Some c) at) (is.shows place m m_at)
 
   -- the first views of the collection, as many as its matrix has
   pub seen : slice_range c.views 0 (length m.columns) ≡ views_before p n c place
-  seen = ap (λ (k : ℕ). slice_range c.views 0 k) (counted g p n place made kept m is m_at) ∙ first_range p n place c at
+  seen = ap (λ (k : ℕ). slice_range c.views 0 k) (counted g p n place made m is m_at) ∙ first_range p n place c at
 
   pub shown_all : (views : List ViewPlan) → views ≡ views_before p n c place → Shows g m 0 views
   shown_all views e = subst (λ (vs : List ViewPlan). Shows g m 0 vs) (sym e) (shown_from g (views_before p n c place) m 0 shows_all)
@@ -229,8 +230,14 @@ module _ (g : GraphData) (p : Plan) (n place : ℕ) (c : CollectionPlan) (made :
   pub all_columns : (views : List ViewPlan) → views ≡ views_before p n c place → length m.columns ≡ length views
   all_columns views e = as_many g (views_before p n c place) m shows_all ∙ ap (λ (vs : List ViewPlan). length vs) (sym e)
 
+  taken_is : take (length m.columns) c.views ≡ made_at p n place
+  taken_is = ap (λ (k : ℕ). take k c.views) (counted g p n place made m is m_at) ∙ first_of p n place c at ∙ sym (made_with p n place (Some c) at)
+
+  pub shows_taken : ShowsViews g (rules_of (take (length m.columns) c.views)) m
+  shows_taken = subst (λ (vs : List ViewPlan). ShowsViews g (rules_of vs) m) (sym taken_is) (is.shows place m m_at)
+
   pub columns_within : length m.columns ≤ length c.views
-  columns_within = omega (arith, counted g p n place made kept m is m_at, count_within p n place c at)
+  columns_within = omega (arith, counted g p n place made m is m_at, count_within p n place c at)
 
 -- ---- before the first statement
 
@@ -247,11 +254,10 @@ empty_shows g m e = subst (λ (x : MatrixData). ShowsViews g [] x) (sym e) (reco
   columns = refl;
 })
 
-pub started_at : (g : GraphData) (p : Plan) (made : List MatrixData) (kept : List ℕ) → length made ≡ length p.collections → All (λ (m : MatrixData). m ≡ matrix_of g (replicate (length g.ends) true) []) made → kept ≡ [] → IsAt g p 0 made kept
-started_at g p made kept all empty none = record {
+pub started_at : (g : GraphData) (p : Plan) (made : List MatrixData) → length made ≡ length p.collections → All (λ (m : MatrixData). m ≡ matrix_of g (replicate (length g.ends) true) []) made → MatricesAt g p 0 made
+started_at g p made all empty = record {
   all = all;
   shows = λ place m at.
       let is : m ≡ matrix_of g (replicate (length g.ends) true) [] = sym (get_or_from_slice_get made place m m at) ∙ empty place m (slice_get_within made place m at) in
       subst (λ (vs : List ViewPlan). ShowsViews g (rules_of vs) m) (sym (nothing_made p place)) (empty_shows g m is);
-  kept = none;
 }

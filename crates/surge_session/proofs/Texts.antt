@@ -14,6 +14,7 @@ use Rattle.gvdl_check.specs.declared.plan.Step.{Step}
 use Rattle.gvdl_check.specs.declared.plan.Step.TheVariants as step
 use Rattle.gvdl_check.specs.declared.plan.Plan.{Plan}
 use Rattle.gvdl_check.specs.Fits.{RunFits, PlanFits}
+use Rattle.result_tables.specs.declared.form.Form.{Form}
 use Rattle.surge_session.specs.Output.{list_of, tables_text, views_before, views_added, kept_at, run_text, kept_text, append_text, order_text, shown_text, text_of, step_text, texts, IsRun}
 
 -- ---- looking up
@@ -29,6 +30,12 @@ found {X} xs ys i x same lt is = subst (λ (zs : List X). slice_get zs i ≡ Som
 pub missing : {X : Type 0} (xs ys : List X) (i : ℕ) → xs ≡ ys → length xs ≤ i → slice_get ys i ≡ None
 missing {X} xs ys i same le = subst (λ (zs : List X). slice_get zs i ≡ None) same (slice_get_past xs i le)
 
+-- what stands at a place of a list
+pub at_place : {X : Type 0} (xs : List X) (i : ℕ) → i < length xs → (x : X) × (slice_get xs i ≡ Some x)
+at_place [] i lt = absurd (omega (arith, lt))
+at_place (x ∷ xs) zero lt = (x, refl)
+at_place (x ∷ xs) (suc i) lt = at_place xs i (omega (arith, lt))
+
 pub on_ok : {A E : Type 0} (r : Result A E) {P Q : Type 0} → (P → Q) → OnOk r P → OnOk r Q
 on_ok (Ok a) f h = f h
 on_ok (Err e) f h = tt
@@ -41,47 +48,47 @@ if_ok (Err e) p = tt
 pub run_fits : (g : GraphData) (p : Plan) (n : ℕ) (run : RunPlan) → PlanFits g p → slice_get p.runs n ≡ Some run → IsRun g run
 run_fits g p n run fits at =
     let here : RunFits g (length p.collections) run = subst (λ (r : RunPlan). RunFits g (length p.collections) r) (get_or_from_slice_get p.runs n run run at) (fits.runs n run (slice_get_within p.runs n run at)) in
-    record { checked = here.checked; some = here.some; few = here.limit }
+    record { checked = here.checked; some = here.some; few = here.limit; split = here.split }
 
 -- ---- a run
 
-pub run_with : (answer : Answer) (g : GraphData) (p : Plan) (n : ℕ) (run : RunPlan) (c : Option CollectionPlan) → slice_get p.collections run.collection ≡ c
-    → run_text answer g p n run ≡ list_of (λ (x : CollectionPlan). tables_text answer g run x.name (views_before p n x run.collection)) c
-run_with answer g p n run c at = ap (λ (o : Option CollectionPlan). list_of (λ (x : CollectionPlan). tables_text answer g run x.name (views_before p n x run.collection)) o) at
+pub run_with : (answer : Answer) (form : Form) (g : GraphData) (p : Plan) (n : ℕ) (run : RunPlan) (c : Option CollectionPlan) → slice_get p.collections run.collection ≡ c
+    → run_text answer form g p n run ≡ list_of (λ (x : CollectionPlan). tables_text answer form g run x.name (views_before p n x run.collection)) c
+run_with answer form g p n run c at = ap (λ (o : Option CollectionPlan). list_of (λ (x : CollectionPlan). tables_text answer form g run x.name (views_before p n x run.collection)) o) at
 
 -- ---- a kept run
 
-kept_with : (answer : Answer) (g : GraphData) (p : Plan) (name : List ℕ) (added : List ViewPlan) (place kept : ℕ) (run : Option RunPlan) → slice_get p.runs kept ≡ run
-    → kept_text answer g p name added place kept ≡ list_of (λ (r : RunPlan). if r.collection == place then tables_text answer g r name added else []) run
-kept_with answer g p name added place kept run at = ap (λ (o : Option RunPlan). list_of (λ (r : RunPlan). if r.collection == place then tables_text answer g r name added else []) o) at
+kept_with : (answer : Answer) (form : Form) (g : GraphData) (p : Plan) (name : List ℕ) (added : List ViewPlan) (place kept : ℕ) (run : Option RunPlan) → slice_get p.runs kept ≡ run
+    → kept_text answer form g p name added place kept ≡ list_of (λ (r : RunPlan). if r.collection == place then tables_text answer form g r name added else []) run
+kept_with answer form g p name added place kept run at = ap (λ (o : Option RunPlan). list_of (λ (r : RunPlan). if r.collection == place then tables_text answer form g r name added else []) o) at
 
-pub kept_missing : (answer : Answer) (g : GraphData) (p : Plan) (name : List ℕ) (added : List ViewPlan) (place kept : ℕ) → slice_get p.runs kept ≡ None → kept_text answer g p name added place kept ≡ []
-kept_missing answer g p name added place kept at = kept_with answer g p name added place kept None at
+pub kept_missing : (answer : Answer) (form : Form) (g : GraphData) (p : Plan) (name : List ℕ) (added : List ViewPlan) (place kept : ℕ) → slice_get p.runs kept ≡ None → kept_text answer form g p name added place kept ≡ []
+kept_missing answer form g p name added place kept at = kept_with answer form g p name added place kept None at
 
-pub kept_elsewhere : (answer : Answer) (g : GraphData) (p : Plan) (name : List ℕ) (added : List ViewPlan) (place kept : ℕ) (run : RunPlan) → slice_get p.runs kept ≡ Some run → (run.collection ≡ place → ⊥)
-    → kept_text answer g p name added place kept ≡ []
-kept_elsewhere answer g p name added place kept run at ne =
-    kept_with answer g p name added place kept (Some run) at ∙ ap (λ (b : Bool). if b then tables_text answer g run name added else []) (ne_eqb run.collection place ne)
+pub kept_elsewhere : (answer : Answer) (form : Form) (g : GraphData) (p : Plan) (name : List ℕ) (added : List ViewPlan) (place kept : ℕ) (run : RunPlan) → slice_get p.runs kept ≡ Some run → (run.collection ≡ place → ⊥)
+    → kept_text answer form g p name added place kept ≡ []
+kept_elsewhere answer form g p name added place kept run at ne =
+    kept_with answer form g p name added place kept (Some run) at ∙ ap (λ (b : Bool). if b then tables_text answer form g run name added else []) (ne_eqb run.collection place ne)
 
-pub kept_here : (answer : Answer) (g : GraphData) (p : Plan) (name : List ℕ) (added : List ViewPlan) (place kept : ℕ) (run : RunPlan) → slice_get p.runs kept ≡ Some run → run.collection ≡ place
-    → kept_text answer g p name added place kept ≡ tables_text answer g run name added
-kept_here answer g p name added place kept run at e =
-    kept_with answer g p name added place kept (Some run) at ∙ ap (λ (b : Bool). if b then tables_text answer g run name added else []) (eq-eqb run.collection place e)
+pub kept_here : (answer : Answer) (form : Form) (g : GraphData) (p : Plan) (name : List ℕ) (added : List ViewPlan) (place kept : ℕ) (run : RunPlan) → slice_get p.runs kept ≡ Some run → run.collection ≡ place
+    → kept_text answer form g p name added place kept ≡ tables_text answer form g run name added
+kept_here answer form g p name added place kept run at e =
+    kept_with answer form g p name added place kept (Some run) at ∙ ap (λ (b : Bool). if b then tables_text answer form g run name added else []) (eq-eqb run.collection place e)
 
 -- ---- an append
 
-pub append_with : (answer : Answer) (g : GraphData) (p : Plan) (n place : ℕ) (c : Option CollectionPlan) → slice_get p.collections place ≡ c
-    → append_text answer g p n place ≡ list_of (λ (x : CollectionPlan). flat_map (kept_text answer g p x.name (views_added p n x place) place) (kept_at p n)) c
-append_with answer g p n place c at = ap (λ (o : Option CollectionPlan). list_of (λ (x : CollectionPlan). flat_map (kept_text answer g p x.name (views_added p n x place) place) (kept_at p n)) o) at
+pub append_with : (answer : Answer) (form : Form) (g : GraphData) (p : Plan) (n place : ℕ) (c : Option CollectionPlan) → slice_get p.collections place ≡ c
+    → append_text answer form g p n place ≡ list_of (λ (x : CollectionPlan). flat_map (kept_text answer form g p x.name (views_added p n x place) place) (kept_at p n)) c
+append_with answer form g p n place c at = ap (λ (o : Option CollectionPlan). list_of (λ (x : CollectionPlan). flat_map (kept_text answer form g p x.name (views_added p n x place) place) (kept_at p n)) o) at
 
 -- ---- a statement
 
-pub step_is : (answer : Answer) (g : GraphData) (p : Plan) (n : ℕ) (s : Step) → slice_get p.steps n ≡ Some s → step_text answer g p n ≡ text_of answer g p n s
-step_is answer g p n s at = ap (list_of (text_of answer g p n)) at
+pub step_is : (answer : Answer) (form : Form) (g : GraphData) (p : Plan) (n : ℕ) (s : Step) → slice_get p.steps n ≡ Some s → step_text answer form g p n ≡ text_of answer form g p n s
+step_is answer form g p n s at = ap (list_of (text_of answer form g p n)) at
 
-pub run_step_is : (answer : Answer) (g : GraphData) (p : Plan) (n place : ℕ) (run : Option RunPlan) → slice_get p.steps n ≡ Some (step.Run place) → slice_get p.runs place ≡ run
-    → step_text answer g p n ≡ list_of (run_text answer g p n) run
-run_step_is answer g p n place run at is = step_is answer g p n (step.Run place) at ∙ ap (list_of (run_text answer g p n)) is
+pub run_step_is : (answer : Answer) (form : Form) (g : GraphData) (p : Plan) (n place : ℕ) (run : Option RunPlan) → slice_get p.steps n ≡ Some (step.Run place) → slice_get p.runs place ≡ run
+    → step_text answer form g p n ≡ list_of (run_text answer form g p n) run
+run_step_is answer form g p n place run at is = step_is answer form g p n (step.Run place) at ∙ ap (list_of (run_text answer form g p n)) is
 
 -- ---- all statements
 
@@ -90,10 +97,10 @@ range-add a zero n = ap₂ range_with_len (let e : a ≡ a + zero = omega arith 
 range-add a (suc m) n =
     ap (range_with_len a) (let e : suc m + n ≡ suc (m + n) = omega arith in e) ∙ ap (λ (x : List ℕ). a ∷ x) (range-add (a + 1) m n ∙ ap (λ (k : ℕ). range_with_len (a + 1) m ++ range_with_len k n) (let e : a + 1 + m ≡ a + suc m = omega arith in e))
 
-pub one_step_more : (answer : Answer) (g : GraphData) (p : Plan) (n : ℕ) → texts answer g p (n + 1) ≡ texts answer g p n ++ step_text answer g p n
-one_step_more answer g p n =
-    ap (flat_map (step_text answer g p)) (range-add 0 n 1 ∙ ap (λ (k : ℕ). range_with_len 0 n ++ k ∷ []) (let e : 0 + n ≡ n = omega arith in e)) ∙ flat_map-append (step_text answer g p) (range_with_len 0 n) (n ∷ [])
-    ∙ ap (λ (x : List ℕ). texts answer g p n ++ x) (append-nil (step_text answer g p n))
+pub one_step_more : (answer : Answer) (form : Form) (g : GraphData) (p : Plan) (n : ℕ) → texts answer form g p (n + 1) ≡ texts answer form g p n ++ step_text answer form g p n
+one_step_more answer form g p n =
+    ap (flat_map (step_text answer form g p)) (range-add 0 n 1 ∙ ap (λ (k : ℕ). range_with_len 0 n ++ k ∷ []) (let e : 0 + n ≡ n = omega arith in e)) ∙ flat_map-append (step_text answer form g p) (range_with_len 0 n) (n ∷ [])
+    ∙ ap (λ (x : List ℕ). texts answer form g p n ++ x) (append-nil (step_text answer form g p n))
 
 pub shown_with : (g : GraphData) (p : Plan) (n place : ℕ) (c : Option CollectionPlan) → slice_get p.collections place ≡ c → shown_text g p n place ≡ list_of (λ (x : CollectionPlan). order_text g x.name (views_before p n x place)) c
 shown_with g p n place c at = ap (λ (o : Option CollectionPlan). list_of (λ (x : CollectionPlan). order_text g x.name (views_before p n x place)) o) at

@@ -6,6 +6,7 @@ use Rattle.gvdl_check.specs.declared.plan.RunPlan.{RunPlan}
 use Rattle.gvdl_check.specs.declared.plan.Step.TheVariants as step
 use Rattle.gvdl_check.specs.declared.plan.Plan.{Plan}
 use Rattle.gvdl_check.specs.Continued.{IsFront}
+use Rattle.result_tables.specs.declared.form.Form.{Form}
 use Rattle.surge_session.specs.Output.{step_text, plan_text}
 
 -- the statement makes this run
@@ -20,10 +21,10 @@ pub record IsAgain (first second : RunPlan) : Type 0 where
   pub call : second.call ≡ first.call
   pub rounds : second.rounds ≡ first.rounds
 
--- Of the plans of a script and of one that continues it: the output of the first is a front of the output of the second. And
--- where a later statement runs the same call for the same rounds again, it first prints the same tables of the views that
--- were there before.
+-- Of the plans of a script and of one that continues it, in each form: the output of the first is a front of the output of
+-- the second. And where a later statement runs the same call for the same rounds again, whatever its order and its split, it
+-- first prints the same tables of the views that were there before.
 pub record KeepsTexts (answer : Answer) (g : GraphData) (before after : Plan) : Type 0 where
-  pub output : IsFront (plan_text answer g before) (plan_text answer g after)
-  pub runs : (m n : ℕ) (first second : RunPlan) → m ≤ n → Runs before m first → Runs after n second → IsAgain first second
-      → IsFront (step_text answer g before m) (step_text answer g after n)
+  pub output : (form : Form) → IsFront (plan_text answer form g before) (plan_text answer form g after)
+  pub runs : (form : Form) (m n : ℕ) (first second : RunPlan) → m ≤ n → Runs before m first → Runs after n second → IsAgain first second
+      → IsFront (step_text answer form g before m) (step_text answer form g after n)

@@ -1,6 +1,7 @@
 pub mod Output
-pub mod Sessions
 pub mod State
+pub mod WorkLines
+pub mod Sessions
 pub mod SessionInside
 pub mod Faults
 pub mod Continuing

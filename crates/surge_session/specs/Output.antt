@@ -1,6 +1,6 @@
 -- What the statements of a plan print.
-use Rattle.std.specs.Prelude.{ℕ, ◌+◌, ◌≤◌, ◌==◌, if◌then◌else◌, List, [], ◌∷◌, ◌++◌, length, flat_map, take, drop, sum_by, slice_get, codes, Option, Some, None}
-use Rattle.std.specs.List.{range_with_len}
+use Rattle.std.specs.Prelude.{ℕ, zero, suc, ◌+◌, ◌-◌, ◌≤◌, ◌==◌, ◌&&◌, nat_lt, if◌then◌else◌, List, [], ◌∷◌, ◌++◌, length, flat_map, take, drop, sum_by, slice_get, codes, Option, Some, None}
+use Rattle.std.specs.List.{range_with_len, last_or}
 use Rattle.std.specs.Fmt.{decimal}
 use Rattle.graph_model.specs.declared.number.EdgeNo.{EdgeNo}
 use Rattle.graph_model.specs.GraphData.{GraphData}
@@ -11,17 +11,23 @@ use Rattle.vertex_lang.specs.Leaves.{IsChecked}
 use Rattle.vertex_lang.specs.Expressions.{Answer}
 use Rattle.vertex_lang.specs.Arcs.{arcs_between}
 use Rattle.vertex_lang.specs.Lone.{number_of, answer_of}
+use Rattle.segment_split.specs.Rule.{HasNumber}
+use Rattle.gvdl_check.specs.declared.plan.OrderRule.{OrderRule}
+use Rattle.gvdl_check.specs.declared.plan.OrderRule.TheVariants as order
 use Rattle.gvdl_check.specs.declared.plan.ViewPlan.{ViewPlan}
 use Rattle.gvdl_check.specs.declared.plan.CollectionPlan.{CollectionPlan}
 use Rattle.gvdl_check.specs.declared.plan.RunPlan.{RunPlan}
 use Rattle.gvdl_check.specs.declared.plan.Step.{Step}
 use Rattle.gvdl_check.specs.declared.plan.Step.TheVariants as step
 use Rattle.gvdl_check.specs.declared.plan.Plan.{Plan}
-use Rattle.gvdl_check.specs.Steps.{views_at}
+use Rattle.gvdl_check.specs.Steps.{views_at, runs_at}
 use Rattle.gvdl_printer.specs.Canonical.{canonical_call}
 use Rattle.view_matrix.specs.Matrices.{in_exactly_one}
 use Rattle.view_order.specs.Greedy.{greedy}
-use Rattle.result_tables.specs.TableText.{table_of, head_text, line_end, table_text}
+use Rattle.result_tables.specs.declared.form.Form.{Form}
+use Rattle.result_tables.specs.TableText.{table_of, head_text, line_end, form_text}
+use Rattle.view_segment.specs.Tasks.{Task, works_of}
+use Rattle.view_engine.specs.Splits.{segments_of, all_works}
 
 -- a list for what is there, and nothing where nothing is
 abbrev pub list_of : {A B : Type 0} → (A → List B) → Option A → List B
@@ -34,13 +40,14 @@ list_of f (Some a) = f a
 abbrev pub view_answer : Answer → GraphData → RunPlan → ViewRule → Lone
 view_answer answer g run rule = answer_of answer run.program g (arcs_between run.program.along g (view_edges g rule)) run.rounds
 
--- the text of the view's table, in the collection of this name
-abbrev pub view_text : Answer → GraphData → RunPlan → List ℕ → ViewPlan → List ℕ
-view_text answer g run collection view = table_text (head_text collection view.name (canonical_call run.call)) g (table_of (view_answer answer g run view.rule))
+-- the text of the view's table in a form, in the collection of this name
+abbrev pub view_text : Answer → Form → GraphData → RunPlan → List ℕ → ViewPlan → List ℕ
+view_text answer form g run collection view =
+    form_text form (head_text collection view.name (canonical_call run.call)) (length (view_edges g view.rule)) g (table_of (view_answer answer g run view.rule))
 
 -- the tables of these views, in their order
-abbrev pub tables_text : Answer → GraphData → RunPlan → List ℕ → List ViewPlan → List ℕ
-tables_text answer g run collection views = flat_map (view_text answer g run collection) views
+abbrev pub tables_text : Answer → Form → GraphData → RunPlan → List ℕ → List ViewPlan → List ℕ
+tables_text answer form g run collection views = flat_map (view_text answer form g run collection) views
 
 -- ---- an order
 
@@ -62,8 +69,12 @@ with_distances distance before (v ∷ vs) = (v, distance before v) ∷ with_dist
 abbrev pub ordered : GraphData → List ViewPlan → List (ℕ × ℕ)
 ordered g views = let distance = difference g views in with_distances distance None (greedy distance None (range_with_len 0 (length views)))
 
+-- the name of the view at this place
+abbrev pub name_at : List ViewPlan → ℕ → List ℕ
+name_at views v = list_of (λ view. view.name) (slice_get views v)
+
 abbrev pub order_line : List ViewPlan → ℕ × ℕ → List ℕ
-order_line views line = list_of (λ view. view.name) (slice_get views line.0) ++ (codes " " ++ (decimal line.1 ++ line_end))
+order_line views line = name_at views line.0 ++ (codes " " ++ (decimal line.1 ++ line_end))
 
 -- the sum of the distances, a line for each view, and `end`
 abbrev pub order_text : GraphData → List ℕ → List ViewPlan → List ℕ
@@ -75,6 +86,10 @@ order_text g collection views =
 -- the views that this collection has before this step, in declared order
 abbrev pub views_before : Plan → ℕ → CollectionPlan → ℕ → List ViewPlan
 views_before p n collection place = take (views_at p n place) collection.views
+
+-- the views that the collection at this place has before this step, in declared order
+abbrev pub made_at : Plan → ℕ → ℕ → List ViewPlan
+made_at p n place = list_of (λ c. views_before p n c place) (slice_get p.collections place)
 
 -- the views that this step gives to this collection
 abbrev pub views_added : Plan → ℕ → CollectionPlan → ℕ → List ViewPlan
@@ -93,47 +108,148 @@ keeps p _ = []
 abbrev pub kept_at : Plan → ℕ → List ℕ
 kept_at p n = flat_map (keeps p) (take n p.steps)
 
+-- ---- the order of a run
+
+-- these views in the order of the rule: as they were declared, or greedily from the view before
+abbrev pub in_order : OrderRule → (Option ℕ → ℕ → ℕ) → Option ℕ → List ℕ → List ℕ
+in_order order.Greedy distance before views = greedy distance before views
+in_order order.Declared distance before views = views
+
+-- the views that a run has at first, which are all of these
+abbrev pub first_order : GraphData → RunPlan → List ViewPlan → List ℕ
+first_order g run views = in_order run.order (difference g views) None (range_with_len 0 (length views))
+
+-- these views, and behind them those from number `first` on, which are ordered from the last one before them
+abbrev pub longer_order : GraphData → RunPlan → List ViewPlan → List ℕ → ℕ → List ℕ
+longer_order g run views before first = before ++ in_order run.order (difference g views) (last_or None before) (range_with_len first (length views - first))
+
+-- What a step makes of the order of a run, which is at this place: it makes the run, or it adds views to the collection of a
+-- run that was made before it.
+abbrev pub order_after : GraphData → Plan → RunPlan → ℕ → ℕ → List ℕ → Option Step → List ℕ
+order_after g p run place n before (Some (step.Run other)) = if other == place then first_order g run (made_at p (n + 1) run.collection) else before
+order_after g p run place n before (Some (step.Append collection first count)) =
+    if nat_lt place (runs_at p n) && collection == run.collection
+    then longer_order g run (made_at p (n + 1) run.collection) before (length (made_at p n run.collection))
+    else before
+order_after g p run place n before _ = before
+
+-- the views of a run that is at this place, in the order in which it takes them, before this step
+unfoldable pub order_at : GraphData → Plan → RunPlan → ℕ → ℕ → List ℕ
+order_at g p run place zero = []
+order_at g p run place (suc n) = order_after g p run place n (order_at g p run place n) (slice_get p.steps n)
+
+-- ---- the work of a run
+
+-- what a run on these views asks for
+abbrev pub run_task : Answer → GraphData → RunPlan → List ViewPlan → Task
+run_task answer g run views = record { answer = answer; program = run.program; graph = g; rounds = run.rounds; edges = λ v. edges_at g views (Some v) }
+
+-- the same, before this step
+abbrev pub task_at : Answer → GraphData → Plan → RunPlan → ℕ → Task
+task_at answer g p run n = run_task answer g run (made_at p n run.collection)
+
+-- its segments then, each the list of its views
+abbrev pub segments_at : Answer → GraphData → Plan → RunPlan → ℕ → ℕ → List (List ℕ)
+segments_at answer g p run place n = segments_of (task_at answer g p run n) run.split (order_at g p run place n)
+
+-- the works of all views of this order together, where the run's collection has these views
+abbrev pub order_work : Answer → GraphData → RunPlan → List ViewPlan → List ℕ → ℕ
+order_work answer g run views order = let task = run_task answer g run views in all_works task (segments_of task run.split order)
+
+-- a number for what is there, and 0 where nothing is
+abbrev pub number_for : {A : Type 0} → (A → ℕ) → Option A → ℕ
+number_for f None = 0
+number_for f (Some a) = f a
+
+-- how much more the works of the order behind this step are than those of the order before it
+abbrev pub longer_work : Answer → GraphData → Plan → RunPlan → ℕ → ℕ → ℕ
+longer_work answer g p run place n =
+    let views = made_at p (n + 1) run.collection in order_work answer g run views (order_at g p run place (n + 1)) - order_work answer g run views (order_at g p run place n)
+
+-- the works of the views that a step adds to a kept run, if it is one on this collection
+abbrev pub added_work : Answer → GraphData → Plan → ℕ → ℕ → ℕ → ℕ
+added_work answer g p n place kept =
+    number_for (λ run. if run.collection == place then longer_work answer g p run kept n else 0) (slice_get p.runs kept)
+
+abbrev pub work_of_step : Answer → GraphData → Plan → ℕ → Step → ℕ
+work_of_step answer g p n (step.Run place) = number_for (λ run. order_work answer g run (made_at p (n + 1) run.collection) (order_at g p run place (n + 1))) (slice_get p.runs place)
+work_of_step answer g p n (step.Append place first count) = sum_by (added_work answer g p n place) (kept_at p n)
+work_of_step answer g p n _ = 0
+
+-- the works of the views that this statement runs: so often it calls the updater at most
+abbrev pub step_work : Answer → GraphData → Plan → ℕ → ℕ
+step_work answer g p n = number_for (work_of_step answer g p n) (slice_get p.steps n)
+
+-- the same of so many statements, and of all
+abbrev pub works : Answer → GraphData → Plan → ℕ → ℕ
+works answer g p n = sum_by (step_work answer g p) (range_with_len 0 n)
+
+abbrev pub plan_work : Answer → GraphData → Plan → ℕ
+plan_work answer g p = works answer g p (length p.steps)
+
+-- ---- the text of the work of a run
+
+-- a view, the number of its segment, and its work
+abbrev pub work_line : List ViewPlan → ℕ → ℕ → ℕ → List ℕ
+work_line views segment v work = name_at views v ++ (codes " " ++ (decimal segment ++ (codes " " ++ (decimal work ++ line_end))))
+
+-- the lines of views of one segment, beside which their works stand
+abbrev pub segment_lines : List ViewPlan → ℕ → List ℕ → List ℕ → List ℕ
+segment_lines views segment [] works = []
+segment_lines views segment (v ∷ vs) [] = []
+segment_lines views segment (v ∷ vs) (w ∷ ws) = work_line views segment v w ++ segment_lines views segment vs ws
+
+-- the lines of segments, of which the first has this number
+abbrev pub work_lines : Task → List ViewPlan → ℕ → List (List ℕ) → List ℕ
+work_lines task views segment [] = []
+work_lines task views segment (vs ∷ rest) = segment_lines views segment vs (works_of task vs) ++ work_lines task views (segment + 1) rest
+
+-- the text of the work of a run under this name: segments count from 1
+abbrev pub named_work : List ℕ → Task → List ViewPlan → List (List ℕ) → List ℕ
+named_work name task views segments = codes "work " ++ (name ++ (line_end ++ (work_lines task views 1 segments ++ (codes "end" ++ line_end))))
+
 -- ---- a statement
 
 -- A run prints the tables of all views that its collection has by then.
-abbrev pub run_text : Answer → GraphData → Plan → ℕ → RunPlan → List ℕ
-run_text answer g p n run = list_of (λ collection. tables_text answer g run collection.name (views_before p n collection run.collection)) (slice_get p.collections run.collection)
+abbrev pub run_text : Answer → Form → GraphData → Plan → ℕ → RunPlan → List ℕ
+run_text answer form g p n run = list_of (λ collection. tables_text answer form g run collection.name (views_before p n collection run.collection)) (slice_get p.collections run.collection)
 
 -- the tables of the added views for a kept run, if it is one on this collection
-abbrev pub kept_text : Answer → GraphData → Plan → (name : List ℕ) → List ViewPlan → ℕ → ℕ → List ℕ
-kept_text answer g p name added place kept = list_of (λ run. if run.collection == place then tables_text answer g run name added else []) (slice_get p.runs kept)
+abbrev pub kept_text : Answer → Form → GraphData → Plan → (name : List ℕ) → List ViewPlan → ℕ → ℕ → List ℕ
+kept_text answer form g p name added place kept = list_of (λ run. if run.collection == place then tables_text answer form g run name added else []) (slice_get p.runs kept)
 
 -- An append prints, for each run that is kept on its collection in the order of keeping, the tables of the views that it
 -- adds.
-abbrev pub append_text : Answer → GraphData → Plan → ℕ → ℕ → List ℕ
-append_text answer g p n place = list_of (λ collection. flat_map (kept_text answer g p collection.name (views_added p n collection place) place) (kept_at p n)) (slice_get p.collections place)
+abbrev pub append_text : Answer → Form → GraphData → Plan → ℕ → ℕ → List ℕ
+append_text answer form g p n place = list_of (λ collection. flat_map (kept_text answer form g p collection.name (views_added p n collection place) place) (kept_at p n)) (slice_get p.collections place)
 
 -- The order of all views that a collection has by then is shown with the distance of each view from the one before.
 abbrev pub shown_text : GraphData → Plan → ℕ → ℕ → List ℕ
 shown_text g p n place = list_of (λ collection. order_text g collection.name (views_before p n collection place)) (slice_get p.collections place)
 
--- What shows work has no text yet: it comes with the work that is counted.
+-- The work of a kept run is shown view by view, in the order in which it takes them.
 abbrev pub work_text : Answer → GraphData → Plan → ℕ → ℕ → List ℕ
-work_text answer g p n place = []
+work_text answer g p n place =
+    list_of (λ run. list_of (λ name. named_work name (task_at answer g p run n) (made_at p n run.collection) (segments_at answer g p run place n)) run.keep) (slice_get p.runs place)
 
-abbrev pub text_of : Answer → GraphData → Plan → ℕ → Step → List ℕ
-text_of answer g p n (step.Run place) = list_of (run_text answer g p n) (slice_get p.runs place)
-text_of answer g p n (step.Append place first count) = append_text answer g p n place
-text_of answer g p n (step.ShowOrder place) = shown_text g p n place
-text_of answer g p n (step.ShowWork place) = work_text answer g p n place
-text_of answer g p n _ = []
+abbrev pub text_of : Answer → Form → GraphData → Plan → ℕ → Step → List ℕ
+text_of answer form g p n (step.Run place) = list_of (run_text answer form g p n) (slice_get p.runs place)
+text_of answer form g p n (step.Append place first count) = append_text answer form g p n place
+text_of answer form g p n (step.ShowOrder place) = shown_text g p n place
+text_of answer form g p n (step.ShowWork place) = work_text answer g p n place
+text_of answer form g p n _ = []
 
 -- the text of this statement
-abbrev pub step_text : Answer → GraphData → Plan → ℕ → List ℕ
-step_text answer g p n = list_of (text_of answer g p n) (slice_get p.steps n)
+abbrev pub step_text : Answer → Form → GraphData → Plan → ℕ → List ℕ
+step_text answer form g p n = list_of (text_of answer form g p n) (slice_get p.steps n)
 
 -- the texts of so many statements, in their order
-abbrev pub texts : Answer → GraphData → Plan → ℕ → List ℕ
-texts answer g p n = flat_map (step_text answer g p) (range_with_len 0 n)
+abbrev pub texts : Answer → Form → GraphData → Plan → ℕ → List ℕ
+texts answer form g p n = flat_map (step_text answer form g p) (range_with_len 0 n)
 
 -- the texts of all statements
-abbrev pub plan_text : Answer → GraphData → Plan → List ℕ
-plan_text answer g p = texts answer g p (length p.steps)
+abbrev pub plan_text : Answer → Form → GraphData → Plan → List ℕ
+plan_text answer form g p = texts answer form g p (length p.steps)
 
 -- ---- what is asked
 
@@ -142,3 +258,4 @@ pub record IsRun (g : GraphData) (run : RunPlan) : Type 0 where
   pub checked : IsChecked run.program g
   pub some : 1 ≤ number_of run.rounds
   pub few : number_of run.rounds ≤ 1_000_000
+  pub split : HasNumber run.split

@@ -1,10 +1,10 @@
 //! All statements of a plan.
 
-ghost use Rattle.std.specs.Prelude.{◌≡◌, ◌≤◌, OnOk, OnErr, None};
+ghost use Rattle.std.specs.Prelude.{◌≡◌, ◌+◌, ◌≤◌, OnOk, OnErr};
 ghost use Rattle.surge_outside.specs.Counts.{HasRisen};
 ghost use Rattle.surge_outside.specs.Written.{GrewByFront, appended};
 ghost use Rattle.gvdl_check.specs.Fits.{PlanFits};
-ghost use Rattle.surge_session.specs.Output.{plan_text};
+ghost use Rattle.surge_session.specs.Output.{plan_text, plan_work};
 
 use crate::session::{Next, Session, SessionFault};
 use graph_model::Graph;
@@ -15,7 +15,7 @@ use surge_outside::{NoMemory, Sink};
 use vertex_lang::Updater;
 
 /// Executes all statements of a plan, in their order, and writes what they print. The plan fits the graph; form and turns are
-/// as for [`Session::new`].
+/// as for [`Session::new`]. The updater is called at most as often as the works of all views that are run say.
 ///
 /// # Errors
 ///
@@ -31,14 +31,13 @@ pub fn run_all<O: Sink, U: Updater>(
     updater: &mut U,
 ) -> Result<(), SessionFault>
     requires fits { PlanFits graph.now plan.now }
-    requires form { form ≡ Form.Tables }
-    requires turns { turns ≡ None }
-    ensures ok { OnOk result (O.written out.new ≡ appended (O.written out.old) (plan_text U.answer graph.now plan.now)) }
-    ensures err { OnErr result (GrewByFront (O.written out.old) (O.written out.new) (plan_text U.answer graph.now plan.now)) }
+    ensures ok { OnOk result (O.written out.new ≡ appended (O.written out.old) (plan_text U.answer form graph.now plan.now)) }
+    ensures err { OnErr result (GrewByFront (O.written out.old) (O.written out.new) (plan_text U.answer form graph.now plan.now)) }
+    ensures calls { OnOk result (U.calls updater.new ≤ U.calls updater.old + plan_work U.answer graph.now plan.now) }
     ensures faults { O.faults out.old ≤ O.faults out.new }
     ensures failed { result ≡ Err SessionFault.WriteFault → HasRisen (O.faults out.old) (O.faults out.new) }
 {
-    let mut session = match Session::new(alloc, graph, plan, form, turns) {
+    let mut session = match Session::<U>::new(alloc, graph, plan, form, turns) {
         Ok(session) => session,
         Err(NoMemory) => return Err(SessionFault::NoMemory),
     };

@@ -1,10 +1,10 @@
 //! A plan's execution, statement by statement.
 
-ghost use Rattle.std.specs.Prelude.{◌≡◌, ◌≤◌, ◌↔◌, false, min, length, IfOk, OnErr, None};
+ghost use Rattle.std.specs.Prelude.{◌≡◌, ◌+◌, ◌≤◌, ◌↔◌, false, min, length, IfOk, OnErr};
 ghost use Rattle.surge_outside.specs.Counts.{HasRisen};
 ghost use Rattle.surge_outside.specs.Written.{GrewByFront, appended};
 ghost use Rattle.gvdl_check.specs.Fits.{PlanFits};
-ghost use Rattle.surge_session.specs.Output.{step_text};
+ghost use Rattle.surge_session.specs.Output.{step_text, step_work};
 ghost use Rattle.surge_session.specs.Sessions.{new_session, after_one, spent_one};
 
 use crate::state::State;
@@ -13,7 +13,7 @@ use graph_model::Graph;
 use gvdl_check::Plan;
 use result_tables::Form;
 use std::alloc::Global;
-use std::marker::Model;
+use std::marker::{Model, PhantomData};
 use surge_outside::{NoMemory, Sink, Trouble};
 use vertex_lang::Updater;
 
@@ -49,18 +49,22 @@ impl From<Trouble> for SessionFault {
     }
 }
 
-/// The execution of a plan over its graph, statement by statement. After a fault it is spent.
+/// The execution of a plan over its graph, statement by statement, where values are updated by updaters of one type. After
+/// a fault it is spent.
 #[derive(Drop)]
-pub struct Session<'g> {
+pub struct Session<'g, U: Updater> {
     alloc: Global,
     graph: &'g Graph,
     plan: &'g Plan,
+    form: Form,
+    turns: Option<u64>,
     executed: usize,
     spent: bool,
-    state: State,
+    state: State<'g>,
+    by: PhantomData<U>,
 }
 
-impl<'g> Model for Session<'g> {
+impl<'g, U: Updater> Model for Session<'g, U> {
     ghost use Rattle.std.specs.Coded.{codes};
     ghost use Rattle.edge_predicates.specs.contracts.pred.Pred as pred;
     ghost use Rattle.vertex_lang.specs.contracts.program.Expr as expr;
@@ -74,12 +78,13 @@ impl<'g> Model for Session<'g> {
 
     ghost view = { data_of };
 
-    ghost invariant = { IsSession };
+    ghost invariant = { IsSession U.answer };
 }
 
-impl<'g> Session<'g> {
-    /// A session that has executed no statement of a plan, which fits the graph as that of `gvdl_check::check` does. So far
-    /// tables are written in the form [`Form::Tables`], and no turns are drawn.
+impl<'g, U: Updater> Session<'g, U> {
+    /// A session that has executed no statement of a plan, which fits the graph as that of `gvdl_check::check` does. Tables
+    /// are written in this form. A run turns the first of its segments that has a view left; where there is a seed for turns,
+    /// the one that the stream of the seed draws, which begins anew at each run. What is written is the same.
     ///
     /// # Errors
     ///
@@ -90,21 +95,21 @@ impl<'g> Session<'g> {
         plan: &'g Plan,
         form: Form,
         turns: Option<u64>,
-    ) -> Result<Session<'g>, NoMemory>
+    ) -> Result<Session<'g, U>, NoMemory>
         requires fits { PlanFits graph.now plan.now }
-        requires form { form ≡ Form.Tables }
-        requires turns { turns ≡ None }
-        ensures { IfOk result (λ session. session ≡ new_session graph.now plan.now) }
+        ensures { IfOk result (λ session. session ≡ new_session graph.now plan.now form) }
     {
-        let _ = (form, turns);
         let state = State::new(alloc, graph, plan)?;
         Ok(Session {
             alloc,
             graph,
             plan,
+            form,
+            turns,
             executed: 0,
             spent: false,
             state,
+            by: PhantomData,
         })
     }
 
@@ -124,24 +129,22 @@ impl<'g> Session<'g> {
 
     /// Executes the next statement and writes what it prints: [`Next::Ran`], or [`Next::Ended`] exactly where every
     /// statement was executed before, which changes nothing. Each table or text of a show goes out as one piece, and then
-    /// the rest of it while the sink takes less.
+    /// the rest of it while the sink takes less. The updater is called at most as often as the works of the views that the
+    /// statement runs say.
     ///
     /// # Errors
     ///
     /// [`SessionFault::WriteFault`] where a write failed, which the sink counts, and [`SessionFault::NoMemory`] where
     /// memory was wanting. Then a front of the statement's text went out, and the session is spent.
-    pub fn next<O: Sink, U: Updater>(
-        &mut self,
-        out: &mut O,
-        updater: &mut U,
-    ) -> Result<Next, SessionFault>
+    pub fn next<O: Sink>(&mut self, out: &mut O, updater: &mut U) -> Result<Next, SessionFault>
         requires { self.old.spent ≡ false }
-        ensures ran { result ≡ Ok Next.Ran → (self.new ≡ after_one self.old) × (O.written out.new ≡ appended (O.written out.old) (step_text U.answer self.old.graph self.old.plan self.old.executed)) }
+        ensures ran { result ≡ Ok Next.Ran → (self.new ≡ after_one self.old) × (O.written out.new ≡ appended (O.written out.old) (step_text U.answer self.old.form self.old.graph self.old.plan self.old.executed)) }
+        ensures calls { result ≡ Ok Next.Ran → U.calls updater.new ≤ U.calls updater.old + step_work U.answer self.old.graph self.old.plan self.old.executed }
         ensures ended { (result ≡ Ok Next.Ended) ↔ (self.old.executed ≡ length self.old.plan.steps) }
         ensures same { result ≡ Ok Next.Ended → (self.new ≡ self.old) × (out.new ≡ out.old) × (updater.new ≡ updater.old) }
 
         // After a fault the session is spent, and a front of the text went out.
-        ensures err { OnErr result ((self.new ≡ spent_one self.old) × GrewByFront (O.written out.old) (O.written out.new) (step_text U.answer self.old.graph self.old.plan self.old.executed)) }
+        ensures err { OnErr result ((self.new ≡ spent_one self.old) × GrewByFront (O.written out.old) (O.written out.new) (step_text U.answer self.old.form self.old.graph self.old.plan self.old.executed)) }
         ensures faults { O.faults out.old ≤ O.faults out.new }
         ensures failed { result ≡ Err SessionFault.WriteFault → HasRisen (O.faults out.old) (O.faults out.new) }
     {
@@ -154,6 +157,8 @@ impl<'g> Session<'g> {
                 *step,
                 &mut self.state,
                 self.graph,
+                self.form,
+                self.turns,
                 out,
                 updater,
             ) {

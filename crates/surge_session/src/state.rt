@@ -1,26 +1,30 @@
 //! What is kept from statement to statement.
 
-ghost use Rattle.std.specs.Prelude.{◌≡◌, ℕ, ◌+◌, ◌≤◌, Some, [], true, min, length, replicate, slice_get, slice_range, All, IfOk, OnOk, if◌then◌else◌, ◌==◌};
+ghost use Rattle.std.specs.Prelude.{◌≡◌, ◌≢◌, ℕ, ◌+◌, ◌<◌, ◌≤◌, None, Some, [], true, min, length, replicate, slice_get, slice_range, All, IfOk, IfSome, OnOk, if◌then◌else◌, ◌==◌};
+ghost use Rattle.vertex_lang.specs.Expressions.{Answer};
 ghost use Rattle.gvdl_check.specs.Fits.{PlanFits};
-ghost use Rattle.view_matrix.specs.Matrices.{matrix_of, with_views};
-ghost use Rattle.gvdl_check.specs.Steps.{views_at};
-ghost use Rattle.surge_session.specs.Output.{kept_at};
-ghost use Rattle.surge_session.specs.State.{IsAt, made_at, rules_of};
+ghost use Rattle.view_matrix.specs.Matrices.{MatrixData, matrix_of, with_views};
+ghost use Rattle.gvdl_check.specs.Steps.{runs_at, views_at};
+ghost use Rattle.surge_session.specs.Output.{made_at, order_at};
+ghost use Rattle.surge_session.specs.State.{IsAt, IsKept, HasRun, MatricesAt, rules_of};
 
+use crate::kept::Kept;
 use graph_model::Graph;
 use gvdl_check::{CollectionPlan, Plan, RunPlan, Step, ViewPlan};
 use std::alloc::Global;
 use std::slice;
 use surge_outside::{List, NoMemory};
+use vertex_lang::Updater;
+use view_engine::Engine;
 use view_matrix::Matrix;
 
 /// What is kept from statement to statement.
 #[derive(Drop)]
-pub(crate) struct State {
+pub(crate) struct State<'g> {
     /// The matrix of each collection, with the views that it has so far.
     pub(crate) made: Vec<Matrix>,
-    /// The runs that are kept, by their places, in the order of keeping.
-    pub(crate) kept: Vec<u32>,
+    /// The runs that are kept, in the order of keeping.
+    pub(crate) kept: Vec<Kept<'g>>,
 }
 
 // One truth value for each edge of a graph, each true.
@@ -74,10 +78,10 @@ fn grow_matrix(
     add_views(matrix, graph, &views[before..before + more])
 }
 
-impl State {
+impl<'g> State<'g> {
     /// Before the first statement no collection has a view, and no run is kept.
-    pub(crate) fn new(alloc: Global, graph: &Graph, plan: &Plan) -> Result<State, NoMemory>
-        ensures { IfOk result (λ state. IsAt graph.now plan.now 0 state.made.items state.kept.items) }
+    pub(crate) fn new(alloc: Global, graph: &Graph, plan: &Plan) -> Result<State<'g>, NoMemory>
+        ensures { IfOk result (λ state. (answer : Answer) → IsAt answer graph.now plan.now 0 state.made.items state.kept.items) }
     {
         let made = empty_matrices(alloc, graph, plan.collections.len())?;
         let kept = Vec::new(alloc);
@@ -86,7 +90,7 @@ impl State {
 
     /// How many views a collection has, by its place.
     pub(crate) fn views(&self, graph: &Graph, plan: &Plan, n: usize, place: u32) -> u32
-        requires { IsAt graph.now plan.now n self.now.made.items self.now.kept.items }
+        requires { MatricesAt graph.now plan.now n self.now.made.items }
         ensures { result ≡ length (made_at plan.now n place) }
     {
         match self.made.as_slice().get(place as usize) {
@@ -95,8 +99,8 @@ impl State {
         }
     }
 
-    /// Gives a collection more views, as a statement asks for.
-    pub(crate) fn grow(
+    /// Gives a collection more views, as a statement asks for. The kept runs stay as they were.
+    pub(crate) fn grow<U: Updater>(
         &mut self,
         graph: &Graph,
         plan: &Plan,
@@ -105,10 +109,11 @@ impl State {
         count: u32,
     ) -> Result<(), NoMemory>
         requires fits { PlanFits graph.now plan.now }
-        requires at { IsAt graph.now plan.now n self.old.made.items self.old.kept.items }
+        requires at { IsAt U.answer graph.now plan.now n self.old.made.items self.old.kept.items }
         requires views { (other : ℕ) → views_at plan.now (n + 1) other ≡ views_at plan.now n other + (if place == other then count else 0) }
-        requires kept { kept_at plan.now (n + 1) ≡ kept_at plan.now n }
-        ensures { OnOk result (IsAt graph.now plan.now (n + 1) self.new.made.items self.new.kept.items) }
+        ensures matrices { OnOk result (MatricesAt graph.now plan.now (n + 1) self.new.made.items) }
+        ensures kept { self.new.kept ≡ self.old.kept }
+        ensures each { OnOk result (All (IsKept U.answer graph.now plan.now n self.new.made.items) self.new.kept.items) }
     {
         match plan.collections.as_slice().get(place as usize) {
             Some(collection) => {
@@ -119,23 +124,41 @@ impl State {
         }
     }
 
-    /// Keeps a run, where it has a name under which it is kept.
-    pub(crate) fn keep(
+    /// Keeps a run with its engine, where it has a name under which it is kept.
+    pub(crate) fn keep<U: Updater>(
         &mut self,
         graph: &Graph,
         plan: &Plan,
         n: usize,
         place: u32,
         run: &RunPlan,
+        engine: Engine<'g>,
     ) -> Result<(), NoMemory>
-        requires at { IsAt graph.now plan.now n self.old.made.items self.old.kept.items }
+        requires at { IsAt U.answer graph.now plan.now n self.old.made.items self.old.kept.items }
         requires step { slice_get plan.now.steps n ≡ Some (Step.Run place) }
         requires run { slice_get plan.now.runs place ≡ Some run.now }
-        ensures { OnOk result (IsAt graph.now plan.now (n + 1) self.new.made.items self.new.kept.items) }
+        requires place { place ≡ runs_at plan.now n }
+        requires matrix { run.now.collection < length self.old.made.items }
+        requires has { (m : MatrixData) → slice_get self.old.made.items run.now.collection ≡ Some m → HasRun U.answer graph.now run.now m (order_at graph.now plan.now run.now place (n + 1)) engine }
+        requires count { length engine.order ≤ length (made_at plan.now n run.now.collection) }
+        ensures { OnOk result (IsAt U.answer graph.now plan.now (n + 1) self.new.made.items self.new.kept.items) }
     {
         if run.keep.is_some() {
-            self.kept.push(place)?;
+            self.kept.push(Kept { place, engine })?;
         }
         Ok(())
+    }
+
+    /// Where a run stands among those that are kept, by its place; none where it isn't kept.
+    pub(crate) fn find(&self, place: u32) -> Option<usize>
+        ensures found { IfSome result (λ i. i < length self.now.kept.items × ((k : Kept) → slice_get self.now.kept.items i ≡ Some k → k.place ≡ place)) }
+        ensures none { result ≡ None → All (λ k. k.place ≢ place) self.now.kept.items }
+    {
+        for i in 0..self.kept.len() {
+            if self.kept[i].place == place {
+                return Some(i);
+            }
+        }
+        None
     }
 }

@@ -1,21 +1,27 @@
 //! What a statement asks for.
 
-ghost use Rattle.std.specs.Prelude.{◌≡◌, ◌+◌, ◌≤◌, ℕ, Some, length, slice_get, slice_range, flat_map, OnOk, OnErr};
+ghost use Rattle.std.specs.Prelude.{◌≡◌, ◌+◌, ◌<◌, ◌≤◌, ℕ, Some, length, take, slice_get, slice_range, flat_map, sum_by, All, OnOk, OnErr};
 ghost use Rattle.surge_outside.specs.Counts.{HasRisen};
 ghost use Rattle.surge_outside.specs.Written.{GrewByFront, appended};
 ghost use Rattle.gvdl_check.specs.Fits.{PlanFits};
-ghost use Rattle.gvdl_check.specs.Steps.{views_at};
-ghost use Rattle.surge_session.specs.Output.{kept_at, run_text, kept_text, append_text, shown_text, step_text, IsRun};
-ghost use Rattle.surge_session.specs.State.{IsAt, Shows, made_at};
+ghost use Rattle.view_matrix.specs.Laws.{ShowsViews};
+ghost use Rattle.view_order.specs.Greedy.{numbers};
+ghost use Rattle.surge_session.specs.Output.{made_at, kept_at, tables_text, kept_text, append_text, shown_text, work_text, step_text, added_work, step_work};
+ghost use Rattle.surge_session.specs.State.{HasRun, IsAt, IsKept, MatricesAt, places_of, rules_of};
 
+use crate::kept::Kept;
 use crate::order::write_order;
+use crate::run::{run_first, run_more};
 use crate::state::State;
 use crate::tables::write_tables;
+use crate::work::work_text;
 use graph_model::Graph;
 use gvdl_check::{CollectionPlan, Plan, RunPlan, Step, ViewPlan};
+use result_tables::Form;
 use std::alloc::Global;
-use surge_outside::{NoMemory, Sink, Trouble};
+use surge_outside::{NoMemory, Sink, Trouble, put_all};
 use vertex_lang::Updater;
+use view_engine::Engine;
 use view_matrix::Matrix;
 
 // The views from one place up to another.
@@ -27,111 +33,184 @@ fn views_between(views: &[ViewPlan], first: usize, end: usize) -> &[ViewPlan]
     &views[first..end]
 }
 
-// Makes a run on the views that its collection has so far.
-fn write_run<O: Sink, U: Updater>(
+// Writes the tables of the views that a matrix has from number `first` on.
+fn write_from<O: Sink, U: Updater>(
+    alloc: Global,
+    run: &RunPlan,
+    collection: &CollectionPlan,
+    matrix: &Matrix,
+    first: u32,
+    engine: &Engine,
+    form: Form,
+    graph: &Graph,
+    out: &mut O,
+) -> Result<(), Trouble>
+    requires first { first ≤ length matrix.now.columns }
+    requires within { length matrix.now.columns ≤ length collection.now.views }
+    requires shows { ShowsViews graph.now (rules_of (take (length matrix.now.columns) collection.now.views)) matrix.now }
+    requires has { HasRun U.answer graph.now run.now matrix.now (numbers engine.now.order) engine.now }
+    ensures ok { OnOk result (O.written out.new ≡ appended (O.written out.old) (tables_text U.answer form graph.now run.now collection.now.name (slice_range collection.now.views first (length matrix.now.columns)))) }
+    ensures err { OnErr result (GrewByFront (O.written out.old) (O.written out.new) (tables_text U.answer form graph.now run.now collection.now.name (slice_range collection.now.views first (length matrix.now.columns)))) }
+    ensures faults { O.faults out.old ≤ O.faults out.new }
+    ensures failed { result ≡ Err Trouble.Failed → HasRisen (O.faults out.old) (O.faults out.new) }
+{
+    let views = views_between(
+        collection.views.as_slice(),
+        first as usize,
+        matrix.views() as usize,
+    );
+    write_tables::<O, U>(
+        alloc,
+        run,
+        &collection.name,
+        views,
+        matrix,
+        first,
+        engine,
+        form,
+        graph,
+        out,
+    )
+}
+
+// Makes a run, and keeps it if it has a name.
+fn execute_run<'g, O: Sink, U: Updater>(
+    alloc: Global,
+    plan: &'g Plan,
+    n: usize,
+    place: u32,
+    state: &mut State<'g>,
+    graph: &'g Graph,
+    form: Form,
+    turns: Option<u64>,
+    out: &mut O,
+    updater: &mut U,
+) -> Result<(), Trouble>
+    requires fits { PlanFits graph.now plan.now }
+    requires step { slice_get plan.now.steps n ≡ Some (Step.Run place) }
+    requires at { IsAt U.answer graph.now plan.now n state.old.made.items state.old.kept.items }
+    ensures at { OnOk result (IsAt U.answer graph.now plan.now (n + 1) state.new.made.items state.new.kept.items) }
+    ensures ok { OnOk result (O.written out.new ≡ appended (O.written out.old) (step_text U.answer form graph.now plan.now n)) }
+    ensures err { OnErr result (GrewByFront (O.written out.old) (O.written out.new) (step_text U.answer form graph.now plan.now n)) }
+    ensures calls { OnOk result (U.calls updater.new ≤ U.calls updater.old + step_work U.answer graph.now plan.now n) }
+    ensures faults { O.faults out.old ≤ O.faults out.new }
+    ensures failed { result ≡ Err Trouble.Failed → HasRisen (O.faults out.old) (O.faults out.new) }
+{
+    let run = &plan.runs.as_slice()[place as usize];
+    let collection = &plan.collections.as_slice()[run.collection as usize];
+    let matrix = &state.made[run.collection as usize];
+    let engine = match run_first(alloc, graph, run, matrix, turns, updater) {
+        Ok(engine) => engine,
+        Err(NoMemory) => return Err(Trouble::NoMemory),
+    };
+    if let Err(trouble) = write_from::<O, U>(
+        alloc, run, collection, matrix, 0, &engine, form, graph, out,
+    ) {
+        return Err(trouble);
+    }
+    match state.keep::<U>(graph, plan, n, place, run, engine) {
+        Ok(()) => Ok(()),
+        Err(NoMemory) => Err(Trouble::NoMemory),
+    }
+}
+
+// Makes a kept run on the views that were added to a collection, if it is a run on this collection, and writes their tables.
+fn append_kept<O: Sink, U: Updater>(
     alloc: Global,
     plan: &Plan,
     n: usize,
-    run: &RunPlan,
-    state: &State,
-    graph: &Graph,
-    out: &mut O,
-    updater: &mut U,
-) -> Result<(), Trouble>
-    requires run { IsRun graph.now run.now }
-    requires at { IsAt graph.now plan.now n state.now.made.items state.now.kept.items }
-    ensures ok { OnOk result (O.written out.new ≡ appended (O.written out.old) (run_text U.answer graph.now plan.now n run.now)) }
-    ensures err { OnErr result (GrewByFront (O.written out.old) (O.written out.new) (run_text U.answer graph.now plan.now n run.now)) }
-    ensures faults { O.faults out.old ≤ O.faults out.new }
-    ensures failed { result ≡ Err Trouble.Failed → HasRisen (O.faults out.old) (O.faults out.new) }
-{
-    match plan.collections.as_slice().get(run.collection as usize) {
-        Some(collection) => {
-            let matrix = &state.made[run.collection as usize];
-            let views = views_between(collection.views.as_slice(), 0, matrix.views() as usize);
-            write_tables(
-                alloc,
-                run,
-                &collection.name,
-                views,
-                matrix,
-                0,
-                graph,
-                out,
-                updater,
-            )
-        }
-        None => Ok(()),
-    }
-}
-
-// Makes a kept run on views that were added to a collection, if it is a run on this collection.
-fn write_kept<O: Sink, U: Updater>(
-    alloc: Global,
-    plan: &Plan,
     collection: &CollectionPlan,
-    added: &[ViewPlan],
-    matrix: &Matrix,
-    first: u32,
+    made: &[Matrix],
     place: u32,
-    kept: u32,
+    first: u32,
+    kept: &mut Kept,
     graph: &Graph,
+    form: Form,
+    turns: Option<u64>,
     out: &mut O,
     updater: &mut U,
 ) -> Result<(), Trouble>
     requires fits { PlanFits graph.now plan.now }
-    requires shown { Shows graph.now matrix.now first added.now }
-    ensures ok { OnOk result (O.written out.new ≡ appended (O.written out.old) (kept_text U.answer graph.now plan.now collection.now.name added.now place kept)) }
-    ensures err { OnErr result (GrewByFront (O.written out.old) (O.written out.new) (kept_text U.answer graph.now plan.now collection.now.name added.now place kept)) }
+    requires step { (number count : ℕ) × (slice_get plan.now.steps n ≡ Some (Step.Append place number count)) }
+    requires collection { slice_get plan.now.collections place ≡ Some collection.now }
+    requires matrices { MatricesAt graph.now plan.now (n + 1) made.now }
+    requires first { first ≡ length (made_at plan.now n place) }
+    requires kept { IsKept U.answer graph.now plan.now n made.now kept.old }
+    ensures kept { OnOk result (IsKept U.answer graph.now plan.now (n + 1) made.now kept.new) }
+    ensures place { kept.new.place ≡ kept.old.place }
+    ensures ok { OnOk result (O.written out.new ≡ appended (O.written out.old) (kept_text U.answer form graph.now plan.now collection.now.name (slice_range collection.now.views first (length (made_at plan.now (n + 1) place))) place kept.old.place)) }
+    ensures err { OnErr result (GrewByFront (O.written out.old) (O.written out.new) (kept_text U.answer form graph.now plan.now collection.now.name (slice_range collection.now.views first (length (made_at plan.now (n + 1) place))) place kept.old.place)) }
+    ensures calls { OnOk result (U.calls updater.new ≤ U.calls updater.old + added_work U.answer graph.now plan.now n place kept.old.place) }
     ensures faults { O.faults out.old ≤ O.faults out.new }
     ensures failed { result ≡ Err Trouble.Failed → HasRisen (O.faults out.old) (O.faults out.new) }
 {
-    match plan.runs.as_slice().get(kept as usize) {
-        Some(run) => {
-            if run.collection == place {
-                write_tables(
-                    alloc,
-                    run,
-                    &collection.name,
-                    added,
-                    matrix,
-                    first,
-                    graph,
-                    out,
-                    updater,
-                )
-            } else {
-                Ok(())
-            }
-        }
-        None => Ok(()),
+    let run = &plan.runs.as_slice()[kept.place as usize];
+    if run.collection != place {
+        return Ok(());
     }
+    let matrix = &made[place as usize];
+    match run_more(alloc, run, &mut kept.engine, matrix, first, turns, updater) {
+        Ok(()) => {}
+        Err(NoMemory) => return Err(Trouble::NoMemory),
+    }
+    write_from::<O, U>(
+        alloc,
+        run,
+        collection,
+        matrix,
+        first,
+        &kept.engine,
+        form,
+        graph,
+        out,
+    )
 }
 
-// Makes each kept run on views that were added to its collection.
-fn write_added<O: Sink, U: Updater>(
+// Makes each kept run on the views that were added to its collection.
+fn append_all<O: Sink, U: Updater>(
     alloc: Global,
     plan: &Plan,
+    n: usize,
     collection: &CollectionPlan,
-    added: &[ViewPlan],
-    matrix: &Matrix,
-    first: u32,
+    made: &[Matrix],
     place: u32,
-    kept: &[u32],
+    first: u32,
+    kept: &mut [Kept],
     graph: &Graph,
+    form: Form,
+    turns: Option<u64>,
     out: &mut O,
     updater: &mut U,
 ) -> Result<(), Trouble>
     requires fits { PlanFits graph.now plan.now }
-    requires shown { Shows graph.now matrix.now first added.now }
-    ensures ok { OnOk result (O.written out.new ≡ appended (O.written out.old) (flat_map (kept_text U.answer graph.now plan.now collection.now.name added.now place) kept.now)) }
-    ensures err { OnErr result (GrewByFront (O.written out.old) (O.written out.new) (flat_map (kept_text U.answer graph.now plan.now collection.now.name added.now place) kept.now)) }
+    requires step { (number count : ℕ) × (slice_get plan.now.steps n ≡ Some (Step.Append place number count)) }
+    requires collection { slice_get plan.now.collections place ≡ Some collection.now }
+    requires matrices { MatricesAt graph.now plan.now (n + 1) made.now }
+    requires first { first ≡ length (made_at plan.now n place) }
+    requires kept { All (IsKept U.answer graph.now plan.now n made.now) kept.old }
+    ensures kept { OnOk result (All (IsKept U.answer graph.now plan.now (n + 1) made.now) kept.new) }
+    ensures places { OnOk result (places_of kept.new ≡ places_of kept.old) }
+    ensures ok { OnOk result (O.written out.new ≡ appended (O.written out.old) (flat_map (kept_text U.answer form graph.now plan.now collection.now.name (slice_range collection.now.views first (length (made_at plan.now (n + 1) place))) place) (places_of kept.old))) }
+    ensures err { OnErr result (GrewByFront (O.written out.old) (O.written out.new) (flat_map (kept_text U.answer form graph.now plan.now collection.now.name (slice_range collection.now.views first (length (made_at plan.now (n + 1) place))) place) (places_of kept.old))) }
+    ensures calls { OnOk result (U.calls updater.new ≤ U.calls updater.old + sum_by (added_work U.answer graph.now plan.now n place) (places_of kept.old)) }
     ensures faults { O.faults out.old ≤ O.faults out.new }
     ensures failed { result ≡ Err Trouble.Failed → HasRisen (O.faults out.old) (O.faults out.new) }
 {
-    for run in kept {
-        if let Err(trouble) = write_kept(
-            alloc, plan, collection, added, matrix, first, place, *run, graph, out, updater,
+    for i in 0..kept.len() {
+        if let Err(trouble) = append_kept(
+            alloc,
+            plan,
+            n,
+            collection,
+            made,
+            place,
+            first,
+            &mut kept[i],
+            graph,
+            form,
+            turns,
+            out,
+            updater,
         ) {
             return Err(trouble);
         }
@@ -139,110 +218,48 @@ fn write_added<O: Sink, U: Updater>(
     Ok(())
 }
 
-// Makes a run, and keeps it if it has a name.
-fn execute_run<O: Sink, U: Updater>(
-    alloc: Global,
-    plan: &Plan,
-    n: usize,
-    place: u32,
-    state: &mut State,
-    graph: &Graph,
-    out: &mut O,
-    updater: &mut U,
-) -> Result<(), Trouble>
-    requires fits { PlanFits graph.now plan.now }
-    requires step { slice_get plan.now.steps n ≡ Some (Step.Run place) }
-    requires at { IsAt graph.now plan.now n state.old.made.items state.old.kept.items }
-    ensures at { OnOk result (IsAt graph.now plan.now (n + 1) state.new.made.items state.new.kept.items) }
-    ensures ok { OnOk result (O.written out.new ≡ appended (O.written out.old) (step_text U.answer graph.now plan.now n)) }
-    ensures err { OnErr result (GrewByFront (O.written out.old) (O.written out.new) (step_text U.answer graph.now plan.now n)) }
-    ensures faults { O.faults out.old ≤ O.faults out.new }
-    ensures failed { result ≡ Err Trouble.Failed → HasRisen (O.faults out.old) (O.faults out.new) }
-{
-    match plan.runs.as_slice().get(place as usize) {
-        Some(run) => match write_run(alloc, plan, n, run, state, graph, out, updater) {
-            Ok(()) => match state.keep(graph, plan, n, place, run) {
-                Ok(()) => Ok(()),
-                Err(NoMemory) => Err(Trouble::NoMemory),
-            },
-            Err(trouble) => Err(trouble),
-        },
-        None => Ok(()),
-    }
-}
-
-// Makes each kept run on the views that a collection grew by, of which the first has this number.
-fn write_grown<O: Sink, U: Updater>(
-    alloc: Global,
-    plan: &Plan,
-    n: usize,
-    place: u32,
-    first: u32,
-    state: &State,
-    graph: &Graph,
-    out: &mut O,
-    updater: &mut U,
-) -> Result<(), Trouble>
-    requires fits { PlanFits graph.now plan.now }
-    requires at { IsAt graph.now plan.now (n + 1) state.now.made.items state.now.kept.items }
-    requires kept { kept_at plan.now (n + 1) ≡ kept_at plan.now n }
-    requires first { first ≡ length (made_at plan.now n place) }
-    requires rises { views_at plan.now n place ≤ views_at plan.now (n + 1) place }
-    ensures ok { OnOk result (O.written out.new ≡ appended (O.written out.old) (append_text U.answer graph.now plan.now n place)) }
-    ensures err { OnErr result (GrewByFront (O.written out.old) (O.written out.new) (append_text U.answer graph.now plan.now n place)) }
-    ensures faults { O.faults out.old ≤ O.faults out.new }
-    ensures failed { result ≡ Err Trouble.Failed → HasRisen (O.faults out.old) (O.faults out.new) }
-{
-    match plan.collections.as_slice().get(place as usize) {
-        Some(collection) => {
-            let matrix = &state.made[place as usize];
-            let added = views_between(
-                collection.views.as_slice(),
-                first as usize,
-                matrix.views() as usize,
-            );
-            write_added(
-                alloc,
-                plan,
-                collection,
-                added,
-                matrix,
-                first,
-                place,
-                state.kept.as_slice(),
-                graph,
-                out,
-                updater,
-            )
-        }
-        None => Ok(()),
-    }
-}
-
 // Adds views to a collection, and makes each kept run on them.
-fn execute_append<O: Sink, U: Updater>(
+fn execute_append<'g, O: Sink, U: Updater>(
     alloc: Global,
-    plan: &Plan,
+    plan: &'g Plan,
     n: usize,
     place: u32,
     count: u32,
-    state: &mut State,
-    graph: &Graph,
+    state: &mut State<'g>,
+    graph: &'g Graph,
+    form: Form,
+    turns: Option<u64>,
     out: &mut O,
     updater: &mut U,
 ) -> Result<(), Trouble>
     requires fits { PlanFits graph.now plan.now }
     requires step { (first : ℕ) × (slice_get plan.now.steps n ≡ Some (Step.Append place first count)) }
-    requires at { IsAt graph.now plan.now n state.old.made.items state.old.kept.items }
-    ensures at { OnOk result (IsAt graph.now plan.now (n + 1) state.new.made.items state.new.kept.items) }
-    ensures ok { OnOk result (O.written out.new ≡ appended (O.written out.old) (append_text U.answer graph.now plan.now n place)) }
-    ensures err { OnErr result (GrewByFront (O.written out.old) (O.written out.new) (append_text U.answer graph.now plan.now n place)) }
+    requires at { IsAt U.answer graph.now plan.now n state.old.made.items state.old.kept.items }
+    ensures at { OnOk result (IsAt U.answer graph.now plan.now (n + 1) state.new.made.items state.new.kept.items) }
+    ensures ok { OnOk result (O.written out.new ≡ appended (O.written out.old) (append_text U.answer form graph.now plan.now n place)) }
+    ensures err { OnErr result (GrewByFront (O.written out.old) (O.written out.new) (append_text U.answer form graph.now plan.now n place)) }
+    ensures calls { OnOk result (U.calls updater.new ≤ U.calls updater.old + step_work U.answer graph.now plan.now n) }
     ensures faults { O.faults out.old ≤ O.faults out.new }
     ensures failed { result ≡ Err Trouble.Failed → HasRisen (O.faults out.old) (O.faults out.new) }
 {
+    let collection = &plan.collections.as_slice()[place as usize];
     let first = state.views(graph, plan, n, place);
-    match state.grow(graph, plan, n, place, count) {
-        Ok(()) => write_grown(alloc, plan, n, place, first, state, graph, out, updater),
+    match state.grow::<U>(graph, plan, n, place, count) {
+        Ok(()) => append_all(
+            alloc,
+            plan,
+            n,
+            collection,
+            &state.made,
+            place,
+            first,
+            &mut state.kept,
+            graph,
+            form,
+            turns,
+            out,
+            updater,
+        ),
         Err(NoMemory) => Err(Trouble::NoMemory),
     }
 }
@@ -257,7 +274,7 @@ fn show_order<O: Sink>(
     graph: &Graph,
     out: &mut O,
 ) -> Result<(), Trouble>
-    requires at { IsAt graph.now plan.now n state.now.made.items state.now.kept.items }
+    requires at { MatricesAt graph.now plan.now n state.now.made.items }
     ensures ok { OnOk result (O.written out.new ≡ appended (O.written out.old) (shown_text graph.now plan.now n place)) }
     ensures err { OnErr result (GrewByFront (O.written out.old) (O.written out.new) (shown_text graph.now plan.now n place)) }
     ensures faults { O.faults out.old ≤ O.faults out.new }
@@ -273,8 +290,41 @@ fn show_order<O: Sink>(
     }
 }
 
+// Shows the work of a kept run.
+fn show_work<O: Sink, U: Updater>(
+    alloc: Global,
+    plan: &Plan,
+    n: usize,
+    place: u32,
+    state: &State,
+    graph: &Graph,
+    out: &mut O,
+) -> Result<(), Trouble>
+    requires fits { PlanFits graph.now plan.now }
+    requires step { slice_get plan.now.steps n ≡ Some (Step.ShowWork place) }
+    requires at { IsAt U.answer graph.now plan.now n state.now.made.items state.now.kept.items }
+    ensures ok { OnOk result (O.written out.new ≡ appended (O.written out.old) (work_text U.answer graph.now plan.now n place)) }
+    ensures err { OnErr result (GrewByFront (O.written out.old) (O.written out.new) (work_text U.answer graph.now plan.now n place)) }
+    ensures faults { O.faults out.old ≤ O.faults out.new }
+    ensures failed { result ≡ Err Trouble.Failed → HasRisen (O.faults out.old) (O.faults out.new) }
+{
+    let run = &plan.runs.as_slice()[place as usize];
+    match (&run.keep, state.find(place)) {
+        (Some(name), Some(i)) => {
+            let collection = &plan.collections.as_slice()[run.collection as usize];
+            let matrix = &state.made[run.collection as usize];
+            let views = views_between(collection.views.as_slice(), 0, matrix.views() as usize);
+            match work_text(alloc, name.as_str(), views, &state.kept[i].engine) {
+                Ok(text) => put_all(out, text.as_slice()),
+                Err(NoMemory) => Err(Trouble::NoMemory),
+            }
+        }
+        _ => Ok(()),
+    }
+}
+
 // Adds the views with which a collection is made.
-fn execute_make(
+fn execute_make<U: Updater>(
     plan: &Plan,
     n: usize,
     place: u32,
@@ -284,52 +334,57 @@ fn execute_make(
 ) -> Result<(), Trouble>
     requires fits { PlanFits graph.now plan.now }
     requires step { slice_get plan.now.steps n ≡ Some (Step.Make place count) }
-    requires at { IsAt graph.now plan.now n state.old.made.items state.old.kept.items }
-    ensures at { OnOk result (IsAt graph.now plan.now (n + 1) state.new.made.items state.new.kept.items) }
+    requires at { IsAt U.answer graph.now plan.now n state.old.made.items state.old.kept.items }
+    ensures at { OnOk result (IsAt U.answer graph.now plan.now (n + 1) state.new.made.items state.new.kept.items) }
     ensures memory { OnErr result (result ≡ Err Trouble.NoMemory) }
 {
-    match state.grow(graph, plan, n, place, count) {
+    match state.grow::<U>(graph, plan, n, place, count) {
         Ok(()) => Ok(()),
         Err(NoMemory) => Err(Trouble::NoMemory),
     }
 }
 
 /// Does what statement `n` asks for, and writes what it prints.
-pub(crate) fn execute<O: Sink, U: Updater>(
+pub(crate) fn execute<'g, O: Sink, U: Updater>(
     alloc: Global,
-    plan: &Plan,
+    plan: &'g Plan,
     n: usize,
     step: Step,
-    state: &mut State,
-    graph: &Graph,
+    state: &mut State<'g>,
+    graph: &'g Graph,
+    form: Form,
+    turns: Option<u64>,
     out: &mut O,
     updater: &mut U,
 ) -> Result<(), Trouble>
     requires fits { PlanFits graph.now plan.now }
     requires step { slice_get plan.now.steps n ≡ Some step }
-    requires at { IsAt graph.now plan.now n state.old.made.items state.old.kept.items }
-    ensures at { OnOk result (IsAt graph.now plan.now (n + 1) state.new.made.items state.new.kept.items) }
-    ensures ok { OnOk result (O.written out.new ≡ appended (O.written out.old) (step_text U.answer graph.now plan.now n)) }
-    ensures err { OnErr result (GrewByFront (O.written out.old) (O.written out.new) (step_text U.answer graph.now plan.now n)) }
+    requires at { IsAt U.answer graph.now plan.now n state.old.made.items state.old.kept.items }
+    ensures at { OnOk result (IsAt U.answer graph.now plan.now (n + 1) state.new.made.items state.new.kept.items) }
+    ensures ok { OnOk result (O.written out.new ≡ appended (O.written out.old) (step_text U.answer form graph.now plan.now n)) }
+    ensures err { OnErr result (GrewByFront (O.written out.old) (O.written out.new) (step_text U.answer form graph.now plan.now n)) }
+    ensures calls { OnOk result (U.calls updater.new ≤ U.calls updater.old + step_work U.answer graph.now plan.now n) }
     ensures faults { O.faults out.old ≤ O.faults out.new }
     ensures failed { result ≡ Err Trouble.Failed → HasRisen (O.faults out.old) (O.faults out.new) }
 {
     match step {
         Step::Make { collection, count } => {
-            execute_make(plan, n, collection, count, state, graph)
+            execute_make::<U>(plan, n, collection, count, state, graph)
         }
-        Step::Run { run } => execute_run(alloc, plan, n, run, state, graph, out, updater),
+        Step::Run { run } => execute_run(
+            alloc, plan, n, run, state, graph, form, turns, out, updater,
+        ),
         Step::Append {
             collection,
             count,
             ..
         } => execute_append(
-            alloc, plan, n, collection, count, state, graph, out, updater,
+            alloc, plan, n, collection, count, state, graph, form, turns, out, updater,
         ),
         Step::ShowOrder { collection } => {
             show_order(alloc, plan, n, collection, state, graph, out)
         }
+        Step::ShowWork { run } => show_work::<O, U>(alloc, plan, n, run, state, graph, out),
         Step::Nothing => Ok(()),
-        Step::ShowWork { .. } => Ok(()),
     }
 }

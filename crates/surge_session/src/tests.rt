@@ -19,8 +19,7 @@ const NODES: &[u8] = b"id\n1\n2\n3\n4\n";
 
 const EDGES: &[u8] = b"src,dst,y:int\n1,2,1\n2,3,1\n1,3,2\n3,4,3\n";
 
-const VIEWS: &str =
-    "load graph G nodes 'n4.csv' edges 'e1.csv'; create view collection C on G [a: y <= 1], [b: y <= 2], [c: y = 2 or y = 3];";
+const VIEWS: &str = "[a: y <= 1], [b: y <= 2], [c: y = 2 or y = 3]";
 
 const TABLES: &str =
     "view C.a hops(1) settled 2\n1,0\n2,1\n3,2\n4,-\nend\nview C.b hops(1) settled 1\n1,0\n2,1\n3,1\n4,-\nend\nview C.c hops(1) settled 2\n1,0\n2,-\n3,1\n4,2\nend\n";
@@ -29,18 +28,21 @@ const ADDED: &str = "view C.d hops(1) settled 2\n1,0\n2,-\n3,1\n4,2\nend\n";
 
 const ORDER: &str = "order C 6\na 2\nb 1\nc 3\nend\n";
 
-// The text of a script: the load and the views, and then these statements.
-fn script(alloc: Global, statements: &str) -> Result<String, Fail> {
-    let mut text = String::from_str(alloc, VIEWS)?;
-    text.push_str(statements)?;
-    Ok(text)
-}
+const LINKS: &[u8] = b"src,dst,k:int\n1,2,0\n2,3,0\n3,4,0\n1,4,1\n";
 
-// The plan of these statements over the graph.
-fn planned(alloc: Global, graph: &Graph, statements: &str) -> Result<Plan, Fail>
+const TWO: &[u8] = b"id\n1\n2\n";
+
+// The plan of this script over the graph.
+fn planned(alloc: Global, graph: &Graph, views: &str, statements: &str) -> Result<Plan, Fail>
     ensures { IfOk result (PlanFits graph.now) }
 {
-    let text = script(alloc, statements)?;
+    let mut text = String::from_str(
+        alloc,
+        "load graph G nodes 'n' edges 'e'; create view collection C on G ",
+    )?;
+    text.push_str(views)?;
+    text.push_str("; ")?;
+    text.push_str(statements)?;
     if text.len() > 100_000 {
         return Err(Fail::new("a long script"));
     }
@@ -54,6 +56,8 @@ fn printed_in<L: Ledger>(
     alloc: Global,
     graph: &Graph,
     plan: &Plan,
+    form: Form,
+    turns: Option<u64>,
     blank: Blank,
 ) -> Result<List<u8>, Fail>
     requires fits { PlanFits graph.now plan.now }
@@ -63,35 +67,54 @@ fn printed_in<L: Ledger>(
 {
     let mut steps = Steps::<L>::new(blank);
     let mut sink = SureSink::new(alloc, 1000);
-    let _ = run_all(
-        alloc,
-        graph,
-        plan,
-        Form::Tables,
-        None,
-        &mut sink,
-        &mut steps,
-    );
+    let _ = run_all(alloc, graph, plan, form, turns, &mut sink, &mut steps);
     Ok(List::from_vec(Vec::from_slice(alloc, sink.bytes())?))
 }
 
 // The same, in a ledger of its own.
-fn printed(alloc: Global, graph: &Graph, plan: &Plan) -> Result<List<u8>, Fail>
+fn printed(
+    alloc: Global,
+    graph: &Graph,
+    plan: &Plan,
+    form: Form,
+    turns: Option<u64>,
+) -> Result<List<u8>, Fail>
     requires { PlanFits graph.now plan.now }
 {
-    printed_in::<Brand>(alloc, graph, plan, Blank::new(1))
+    printed_in::<Brand>(alloc, graph, plan, form, turns, Blank::new(1))
 }
 
-// Whether these statements print these texts, one after the other.
-fn prints(alloc: Global, statements: &str, texts: &[&str]) -> Result<bool, Fail> {
+// Whether these statements print these texts over this graph, in this form, one after the other.
+fn prints_over(
+    alloc: Global,
+    files: (&[u8], &[u8]),
+    views: &str,
+    statements: &str,
+    form: Form,
+    turns: Option<u64>,
+    texts: &[&str],
+) -> Result<bool, Fail> {
     let mut expected = String::new(alloc);
     for text in texts {
         expected.push_str(text)?;
     }
-    let graph = load(alloc, NODES, EDGES)?;
-    let plan = planned(alloc, &graph, statements)?;
-    let found = printed(alloc, &graph, &plan)?;
+    let graph = load(alloc, files.0, files.1)?;
+    let plan = planned(alloc, &graph, views, statements)?;
+    let found = printed(alloc, &graph, &plan, form, turns)?;
     Ok(found.as_slice() == expected.as_bytes())
+}
+
+// The same for three views of four edges, as tables.
+fn prints(alloc: Global, statements: &str, texts: &[&str]) -> Result<bool, Fail> {
+    prints_over(
+        alloc,
+        (NODES, EDGES),
+        VIEWS,
+        statements,
+        Form::Tables,
+        None,
+        texts,
+    )
 }
 
 #[test]
@@ -101,6 +124,141 @@ fn each_statement_prints_its_text(rt: HostRuntime) -> Result<(), Fail> {
     let append =
         "run hops(1) on C within 10 rounds keep as K; append to C [d: y >= 2]; run hops(1) on C within 10 rounds;";
     assert!(rt; prints(rt.alloc(), append, &[TABLES, ADDED, TABLES, ADDED])?);
+    Ok(())
+}
+
+#[test]
+fn work_is_shown_by_segments(rt: HostRuntime) -> Result<(), Fail> {
+    let alloc = rt.alloc();
+    let run = "run hops(1) on C within 3 rounds split auto keep as K; show work K;";
+    assert!(rt; prints(alloc, run, &[TABLES, "work K\na 1 7\nb 1 3\nc 2 7\nend\n"])?);
+    let run = "run hops(1) on C within 3 rounds split none keep as K; show work K;";
+    assert!(rt; prints(alloc, run, &[TABLES, "work K\na 1 7\nb 1 3\nc 1 5\nend\n"])?);
+    let run = "run hops(1) on C within 3 rounds split every 1 keep as K; show work K;";
+    assert!(rt; prints(alloc, run, &[TABLES, "work K\na 1 7\nb 2 6\nc 3 7\nend\n"])?);
+    Ok(())
+}
+
+#[test]
+fn work_of_views_by_hand(rt: HostRuntime) -> Result<(), Fail> {
+    let alloc = rt.alloc();
+    let run = "run hops(1) on C within 4 rounds keep as K; show work K;";
+    let tables =
+        "view C.p hops(1) settled 3\n1,0\n2,1\n3,2\n4,3\nend\nview C.q hops(1) settled 2\n1,0\n2,1\n3,2\n4,1\nend\n";
+    assert!(rt;
+        prints_over(
+            alloc,
+            (NODES, LINKS),
+            "[p: k = 0], [q: true]",
+            run,
+            Form::Tables,
+            None,
+            &[tables, "work K\np 1 9\nq 1 4\nend\n"],
+        )?
+    );
+    let run = "run hops(1) on C within 3 rounds keep as K; show work K;";
+    let same =
+        "view C.a hops(1) settled 2\n1,0\n2,1\n3,2\n4,-\nend\nview C.a2 hops(1) settled 2\n1,0\n2,1\n3,2\n4,-\nend\n";
+    assert!(rt;
+        prints_over(
+            alloc,
+            (NODES, EDGES),
+            "[a: y <= 1], [a2: y < 2]",
+            run,
+            Form::Tables,
+            None,
+            &[same, "work K\na 1 7\na2 1 0\nend\n"],
+        )?
+    );
+    let run = "run hops(1) on C within 3 rounds order declared split none keep as K; show work K;";
+    let none =
+        "view C.one hops(1) settled 1\n1,0\n2,1\nend\nview C.zero hops(1) settled 0\n1,0\n2,-\nend\n";
+    assert!(rt;
+        prints_over(
+            alloc,
+            (TWO, b"src,dst\n1,2\n"),
+            "[one: true], [zero: false]",
+            run,
+            Form::Tables,
+            None,
+            &[none, "work K\none 1 3\nzero 1 2\nend\n"],
+        )?
+    );
+    Ok(())
+}
+
+#[test]
+fn views_run_in_another_order_than_declared(rt: HostRuntime) -> Result<(), Fail> {
+    let alloc = rt.alloc();
+    let run = "run hops(1) on C within 3 rounds split auto keep as K; show work K;";
+    let tables =
+        "view C.c hops(1) settled 2\n1,0\n2,-\n3,1\n4,2\nend\nview C.a hops(1) settled 2\n1,0\n2,1\n3,2\n4,-\nend\nview C.b hops(1) settled 1\n1,0\n2,1\n3,1\n4,-\nend\n";
+    assert!(rt;
+        prints_over(
+            alloc,
+            (NODES, EDGES),
+            "[c: y = 2 or y = 3], [a: y <= 1], [b: y <= 2]",
+            run,
+            Form::Tables,
+            None,
+            &[tables, "work K\nc 1 7\nb 1 5\na 1 3\nend\n"],
+        )?
+    );
+    let run = "run hops(1) on C within 3 rounds keep as K; show work K;";
+    let tables =
+        "view C.p hops(1) settled 1\n1,0\n2,1\nend\nview C.q hops(1) settled 1\n1,0\n2,1\nend\n";
+    assert!(rt;
+        prints_over(
+            alloc,
+            (TWO, b"src,dst,k:int\n1,2,0\n2,1,0\n1,1,1\n"),
+            "[p: k = 0], [q: true]",
+            run,
+            Form::Tables,
+            None,
+            &[tables, "work K\np 1 4\nq 1 2\nend\n"],
+        )?
+    );
+    Ok(())
+}
+
+#[test]
+fn turns_change_no_text(rt: HostRuntime) -> Result<(), Fail> {
+    let alloc = rt.alloc();
+    let run =
+        "run hops(1) on C within 10 rounds split every 1 keep as K; append to C [d: y >= 2]; show work K;";
+    let work = "work K\na 1 7\nb 2 6\nc 3 7\nd 4 7\nend\n";
+    for seed in 0..6u64 {
+        assert!(rt;
+            prints_over(
+                alloc,
+                (NODES, EDGES),
+                VIEWS,
+                run,
+                Form::Tables,
+                Some(seed),
+                &[TABLES, ADDED, work],
+            )?
+        );
+    }
+    Ok(())
+}
+
+#[test]
+fn a_line_sums_a_table_up(rt: HostRuntime) -> Result<(), Fail> {
+    let run = "run hops(1) on C within 10 rounds;";
+    let lines =
+        "view C.a hops(1) settled 2 edges 2 values 3 sum 3\nview C.b hops(1) settled 1 edges 3 values 3 sum 2\nview C.c hops(1) settled 2 edges 2 values 3 sum 3\n";
+    assert!(rt;
+        prints_over(
+            rt.alloc(),
+            (NODES, EDGES),
+            VIEWS,
+            run,
+            Form::Summary,
+            None,
+            &[lines],
+        )?
+    );
     Ok(())
 }
 
@@ -146,7 +304,7 @@ fn answers(
 fn a_session_ends_or_is_spent(rt: HostRuntime) -> Result<(), Fail> {
     let alloc = rt.alloc();
     let graph = load(alloc, NODES, EDGES)?;
-    let plan = planned(alloc, &graph, "run hops(1) on C within 10 rounds;")?;
+    let plan = planned(alloc, &graph, VIEWS, "run hops(1) on C within 10 rounds;")?;
     let (found, executed, is_spent) = answers(alloc, &graph, &plan, List::new(alloc))?;
     assert_eq!(rt;
         found.as_slice(),

@@ -3,7 +3,7 @@ use Rattle.std.proofs.Common.{◌≡◌, ◌∙◌, List, ℕ, Some, slice_get, 
 use Rattle.std.specs.Prelude.{OnErr}
 use Rattle.surge_outside.specs.Written.{GrewByFront}
 use Rattle.gvdl_check.specs.declared.plan.Step.TheVariants as step
-use Rattle.surge_session.proofs.Places.{views_same, kept_same, passed}
+use Rattle.surge_session.proofs.Keeping.{passed}
 use Rattle.surge_session.proofs.Texts.{step_is, if_ok}
 use Rattle.surge_session.proofs.statement.execute.Goals as goal
 
@@ -13,31 +13,25 @@ returns-in-Append-clause-err g c =
     let s = step.Append c.in-Append.collection c.in-Append.first c.in-Append.count in
     let at : slice_get p.steps c.args.n ≡ Some s = c.requires.step ∙ ap Some c.in-Append.is in
     subst (λ (text : List ℕ). OnErr c.execute_append.result (GrewByFront (g.O.Sink.written c.args.out.now) (g.O.Sink.written c.execute_append.new.out) text))
-    (sym (step_is g.U.Updater.answer c.args.graph.now p c.args.n s at)) c.execute_append.ensures.err
-
-pub returns-in-Nothing-clause-at : goal.returns-in-Nothing-clause-at
-returns-in-Nothing-clause-at g c =
-    let p = c.args.plan.now in
-    let n = c.args.n in
-    let s = c.args.state.now in
-    let asked = step.Nothing in
-    let at : slice_get p.steps n ≡ Some asked = c.requires.step ∙ ap Some c.in-Nothing.is in
-    passed c.args.graph.now p n s.made.items s.kept.items (λ place. views_same p n place asked at refl) (kept_same p n asked at refl) c.requires.at
+    (sym (step_is g.U.Updater.answer c.args.form c.args.graph.now p c.args.n s at)) c.execute_append.ensures.err
 
 pub returns-in-ShowOrder-clause-at : goal.returns-in-ShowOrder-clause-at
 returns-in-ShowOrder-clause-at g c =
-    let p = c.args.plan.now in
-    let n = c.args.n in
     let s = c.args.state.now in
     let asked = step.ShowOrder c.in-ShowOrder.collection in
-    let at : slice_get p.steps n ≡ Some asked = c.requires.step ∙ ap Some c.in-ShowOrder.is in
-    if_ok c.show_order.result (passed c.args.graph.now p n s.made.items s.kept.items (λ place. views_same p n place asked at refl) (kept_same p n asked at refl) c.requires.at)
+    let at : slice_get c.args.plan.now.steps c.args.n ≡ Some asked = c.requires.step ∙ ap Some c.in-ShowOrder.is in
+    if_ok c.show_order.result (passed g.U.Updater.answer c.args.graph.now c.args.plan.now c.args.n s.made.items s.kept.items asked at tt (λ place. refl) refl c.requires.at)
 
 pub returns-in-ShowWork-clause-at : goal.returns-in-ShowWork-clause-at
 returns-in-ShowWork-clause-at g c =
-    let p = c.args.plan.now in
-    let n = c.args.n in
     let s = c.args.state.now in
     let asked = step.ShowWork c.in-ShowWork.run' in
-    let at : slice_get p.steps n ≡ Some asked = c.requires.step ∙ ap Some c.in-ShowWork.is in
-    passed c.args.graph.now p n s.made.items s.kept.items (λ place. views_same p n place asked at refl) (kept_same p n asked at refl) c.requires.at
+    let at : slice_get c.args.plan.now.steps c.args.n ≡ Some asked = c.requires.step ∙ ap Some c.in-ShowWork.is in
+    if_ok c.show_work.result (passed g.U.Updater.answer c.args.graph.now c.args.plan.now c.args.n s.made.items s.kept.items asked at tt (λ place. refl) refl c.requires.at)
+
+pub returns-in-Nothing-clause-at : goal.returns-in-Nothing-clause-at
+returns-in-Nothing-clause-at g c =
+    let s = c.args.state.now in
+    let asked = step.Nothing in
+    let at : slice_get c.args.plan.now.steps c.args.n ≡ Some asked = c.requires.step ∙ ap Some c.in-Nothing.is in
+    passed g.U.Updater.answer c.args.graph.now c.args.plan.now c.args.n s.made.items s.kept.items asked at tt (λ place. refl) refl c.requires.at

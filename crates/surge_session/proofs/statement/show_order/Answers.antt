@@ -20,7 +20,7 @@ views_between-views-requires-clause-within g c =
     let m = c.index-matrix.result.now in
     let at : slice_get p.collections place ≡ Some collection = found c.as_slice.result.now p.collections place collection c.as_slice.ensures c.in-Some.ensures.lookup.3.0 c.in-Some.ensures.lookup.1 in
     let m_at : slice_get s.made.items place ≡ Some m = found s.made.items s.made.items place m refl (omega (arith, c.requires.at.all, slice_get_within p.collections place collection at)) c.index-matrix.ensures in
-    omega (arith, c.views.ensures.count, columns_within graph p c.args.n place collection s.made.items s.kept.items m at c.requires.at m_at, ap (λ (x : List ViewPlan). length x) c.as_slice-in-Some.ensures)
+    omega (arith, c.views.ensures.count, columns_within graph p c.args.n place collection s.made.items m at c.requires.at m_at, ap (λ (x : List ViewPlan). length x) c.as_slice-in-Some.ensures)
 
 pub write_order-requires-clause-shown : goal.write_order-requires-clause-shown
 write_order-requires-clause-shown g c =
@@ -34,8 +34,8 @@ write_order-requires-clause-shown g c =
     let m_at : slice_get s.made.items place ≡ Some m = found s.made.items s.made.items place m refl (omega (arith, c.requires.at.all, slice_get_within p.collections place collection at)) c.index-matrix.ensures in
     let is : c.views_between-views.result.now ≡ views_before p c.args.n collection place =
     c.views_between-views.ensures ∙ ap (λ (vs : List ViewPlan). slice_range vs 0 c.views.result) c.as_slice-in-Some.ensures ∙ ap (λ (k : ℕ). slice_range collection.views 0 k) c.views.ensures.count
-    ∙ seen graph p c.args.n place collection s.made.items s.kept.items m at c.requires.at m_at in
-    shown_all graph p c.args.n place collection s.made.items s.kept.items m at c.requires.at m_at c.views_between-views.result.now is
+    ∙ seen graph p c.args.n place collection s.made.items m at c.requires.at m_at in
+    shown_all graph p c.args.n place collection s.made.items m at c.requires.at m_at c.views_between-views.result.now is
 
 pub write_order-requires-clause-all : goal.write_order-requires-clause-all
 write_order-requires-clause-all g c =
@@ -49,8 +49,8 @@ write_order-requires-clause-all g c =
     let m_at : slice_get s.made.items place ≡ Some m = found s.made.items s.made.items place m refl (omega (arith, c.requires.at.all, slice_get_within p.collections place collection at)) c.index-matrix.ensures in
     let is : c.views_between-views.result.now ≡ views_before p c.args.n collection place =
     c.views_between-views.ensures ∙ ap (λ (vs : List ViewPlan). slice_range vs 0 c.views.result) c.as_slice-in-Some.ensures ∙ ap (λ (k : ℕ). slice_range collection.views 0 k) c.views.ensures.count
-    ∙ seen graph p c.args.n place collection s.made.items s.kept.items m at c.requires.at m_at in
-    all_columns graph p c.args.n place collection s.made.items s.kept.items m at c.requires.at m_at c.views_between-views.result.now is
+    ∙ seen graph p c.args.n place collection s.made.items m at c.requires.at m_at in
+    all_columns graph p c.args.n place collection s.made.items m at c.requires.at m_at c.views_between-views.result.now is
 
 pub returns-in-Some-clause-ok : goal.returns-in-Some-clause-ok
 returns-in-Some-clause-ok g c =
@@ -64,7 +64,7 @@ returns-in-Some-clause-ok g c =
     let m_at : slice_get s.made.items place ≡ Some m = found s.made.items s.made.items place m refl (omega (arith, c.requires.at.all, slice_get_within p.collections place collection at)) c.index-matrix.ensures in
     let is : c.views_between-views.result.now ≡ views_before p c.args.n collection place =
     c.views_between-views.ensures ∙ ap (λ (vs : List ViewPlan). slice_range vs 0 c.views.result) c.as_slice-in-Some.ensures ∙ ap (λ (k : ℕ). slice_range collection.views 0 k) c.views.ensures.count
-    ∙ seen graph p c.args.n place collection s.made.items s.kept.items m at c.requires.at m_at in
+    ∙ seen graph p c.args.n place collection s.made.items m at c.requires.at m_at in
     let text : order_text graph collection.name c.views_between-views.result.now ≡ shown_text graph p c.args.n place =
     ap (λ (vs : List ViewPlan). order_text graph collection.name vs) is ∙ sym (shown_with graph p c.args.n place (Some collection) at) in
     subst (λ (bytes : List ℕ). OnOk c.write_order.result (g.O.Sink.written c.write_order.new.out ≡ appended (g.O.Sink.written c.args.out.now) bytes)) text c.write_order.ensures.ok
@@ -81,7 +81,7 @@ returns-in-Some-clause-err g c =
     let m_at : slice_get s.made.items place ≡ Some m = found s.made.items s.made.items place m refl (omega (arith, c.requires.at.all, slice_get_within p.collections place collection at)) c.index-matrix.ensures in
     let is : c.views_between-views.result.now ≡ views_before p c.args.n collection place =
     c.views_between-views.ensures ∙ ap (λ (vs : List ViewPlan). slice_range vs 0 c.views.result) c.as_slice-in-Some.ensures ∙ ap (λ (k : ℕ). slice_range collection.views 0 k) c.views.ensures.count
-    ∙ seen graph p c.args.n place collection s.made.items s.kept.items m at c.requires.at m_at in
+    ∙ seen graph p c.args.n place collection s.made.items m at c.requires.at m_at in
     let text : order_text graph collection.name c.views_between-views.result.now ≡ shown_text graph p c.args.n place =
     ap (λ (vs : List ViewPlan). order_text graph collection.name vs) is ∙ sym (shown_with graph p c.args.n place (Some collection) at) in
     subst (λ (bytes : List ℕ). OnErr c.write_order.result (GrewByFront (g.O.Sink.written c.args.out.now) (g.O.Sink.written c.write_order.new.out) bytes)) text c.write_order.ensures.err

@@ -11,7 +11,7 @@ returns-in-Some c =
     let s = c.args.self.now in
     let m = c.in-Some.matrix.now in
     let at : slice_get s.made.items c.args.place ≡ Some m = found c.as_slice.result.now s.made.items c.args.place m c.as_slice.ensures.value c.in-Some.ensures.lookup.3.0 c.in-Some.ensures.lookup.1 in
-    c.views.ensures.count ∙ counted c.args.graph.now c.args.plan.now c.args.n c.args.place s.made.items s.kept.items m c.requires at
+    c.views.ensures.count ∙ counted c.args.graph.now c.args.plan.now c.args.n c.args.place s.made.items m c.requires at
 
 pub returns-in-None : goal.returns-in-None
 returns-in-None c =

@@ -1,0 +1,21 @@
+-- Nothing is done before the first turn.
+use Rattle.std.proofs.Common.{◌≡◌, ◌≤◌, List, length, ap, arith}
+use Rattle.graph_model.specs.declared.number.ViewNo.{ViewNo}
+use Rattle.view_engine.specs.declared.engine.Engine.{Engine}
+use Rattle.view_engine.specs.Engines.{segments_in}
+use Rattle.surge_session.proofs.Running.{nothing_done}
+use Rattle.surge_session.proofs.RunOrders.{first_calls}
+use Rattle.surge_session.proofs.run.run_first.Goals as goal
+
+pub new-requires-clause-few : goal.new-requires-clause-few
+new-requires-clause-few g c =
+    omega (arith, ap (λ (vs : List ViewNo). length vs) c.as_slice.ensures, c.in_ok-order.ensures.count, c.views-all.ensures.count, c.views-all.ensures.limit)
+
+pub finish-requires-clause-stands : goal.finish-requires-clause-stands
+finish-requires-clause-stands g c = c.in_ok-engine.ensures.stands g.U.Updater.answer
+
+pub returns-clause-calls : goal.returns-clause-calls
+returns-clause-calls g c =
+    let same : segments_in c.rest.new.self ≡ segments_in c.finish.new.engine = ap (λ ss. ss.items) c.rest.ensures.segments in
+    first_calls c.in_ok-engine.engine c.finish.new.engine c.rest.new.self (g.U.Counted.calls c.args.updater.now) (g.U.Counted.calls c.finish.new.updater) c.in_ok-finish.ensures.calls
+    (nothing_done c.in_ok-engine.engine c.in_ok-engine.ensures.works) same
