@@ -1,11 +1,10 @@
 -- How a run ends: what was printed, and what was reported.
-use Rattle.std.proofs.Common.{◌≡◌, ◌∙◌, ℕ, List, length, Option, Some, None, Result, Ok, Err, refl, sym, ap, subst, arith, inl, inr}
+use Rattle.std.proofs.Common.{◌≡◌, ◌∙◌, ◌≤◌, ◌+◌, ℕ, List, length, Option, Some, None, Result, Ok, Err, refl, sym, ap, subst, arith, inl, inr}
 use Rattle.std.specs.Prelude.{IfErr, ◌⊎◌}
 use Rattle.std.proofs.lemmas.List.{take_all}
 use Rattle.surge_outside.specs.Counts.{HasRisen}
 use Rattle.surge_outside.specs.Written.{appended, GrewByFront}
 use Rattle.vertex_lang.specs.Expressions.{Answer}
-use Rattle.surge_cli.specs.declared.status.Unbuilt.TheVariants as unbuilt
 use Rattle.surge_cli.specs.declared.status.Status.{Status}
 use Rattle.surge_cli.specs.declared.status.Status.TheVariants as status
 use Rattle.surge_cli.specs.declared.words.Task.{Task}
@@ -15,10 +14,10 @@ use Rattle.surge_cli.specs.declared.words.CommandLine.TheVariants as line
 use Rattle.surge_cli.specs.declared.job.Job.{Job}
 use Rattle.surge_cli.specs.StatusText.{status_line}
 use Rattle.surge_cli.specs.Words.{command_line}
-use Rattle.surge_cli.specs.Output.{output}
+use Rattle.surge_cli.specs.Output.{output, job_work}
 use Rattle.surge_cli.specs.Expected.{Held, Expects}
 use Rattle.surge_cli.specs.Headline.{Written, AsksFor, IsDue, Means}
-use Rattle.surge_cli.specs.Causes.{IsLater, OfWords, NamesNone, Reports}
+use Rattle.surge_cli.specs.Causes.{IsLater, OfWords, NamesNoFile, NamesNone, Reports}
 use Rattle.surge_cli.specs.Stages.{IsExpectedOf, IsStop, IsStage, IsInner, StopsWords}
 use Rattle.surge_cli.proofs.Written.{nothing_appended}
 
@@ -37,7 +36,6 @@ reported (status.Data fault) old new f g n e = inl e
 reported (status.Script fault) old new f g n e = inl e
 reported status.ReadFault old new f g n e = inl e
 reported status.WriteFault old new f g n e = inl e
-reported (status.NotBuilt what) old new f g n e = inl e
 
 -- a front of it was, up to a failure of the sink
 pub reported_front : (s : Status) (old new : Written) (f g : ℕ) → (s ≡ status.Done → ⊥) → HasRisen f g → GrewByFront old new (status_line s) → Reports s old new f g
@@ -49,7 +47,6 @@ reported_front (status.Data fault) old new f g n rise h = inr (rise, h)
 reported_front (status.Script fault) old new f g n rise h = inr (rise, h)
 reported_front status.ReadFault old new f g n rise h = inr (rise, h)
 reported_front status.WriteFault old new f g n rise h = inr (rise, h)
-reported_front (status.NotBuilt what) old new f g n rise h = inr (rise, h)
 
 -- nothing was, where the line found no memory
 pub unreported : (old : Written) (f g : ℕ) → Reports status.NoMemory old old f g
@@ -59,13 +56,11 @@ unreported old f g = (status.NoMemory, (0, omega arith, nothing_appended old))
 
 no_memory : (asked : CommandLine) → OfWords asked status.NoMemory
 no_memory line.NotOfForm = inr refl
-no_memory line.NotBuilt = inr refl
 no_memory (line.Asked asked) = tt
 
 -- a status that does not come from the words is one to words that name a script
 pub named_words : (asked : CommandLine) (task : Task) (s : Status) → AsksFor asked task → IsLater s → OfWords asked s
 named_words line.NotOfForm task s named later = absurd named
-named_words line.NotBuilt task s named later = absurd named
 named_words (line.Asked asked) task s named later = later
 
 stage_later : (s : Status) → IsStage s → IsLater s
@@ -77,8 +72,6 @@ stage_later (status.Script fault) h = tt
 stage_later status.ReadFault h = tt
 stage_later status.WriteFault h = absurd h
 stage_later status.NoMemory h = tt
-stage_later (status.NotBuilt unbuilt.Words) h = absurd h
-stage_later (status.NotBuilt (unbuilt.Statement n)) h = tt
 
 -- ---- a stage that asks nothing of the files
 
@@ -91,8 +84,6 @@ inner_stage (status.Script fault) h = tt
 inner_stage status.ReadFault h = absurd h
 inner_stage status.WriteFault h = absurd h
 inner_stage status.NoMemory h = tt
-inner_stage (status.NotBuilt unbuilt.Words) h = absurd h
-inner_stage (status.NotBuilt (unbuilt.Statement n)) h = tt
 
 pub inner_stages : {A : Type 0} (r : Result A Status) → IfErr r IsInner → IfErr r IsStage
 inner_stages (Ok a) h = h
@@ -112,7 +103,6 @@ stage_stops (status.Script fault) h = tt
 stage_stops status.ReadFault h = tt
 stage_stops status.WriteFault h = absurd h
 stage_stops status.NoMemory h = tt
-stage_stops (status.NotBuilt what) h = tt
 
 pub words_stops : (words : List (List ℕ)) (s : Status) → StopsWords words s → IsStop s
 words_stops words status.Done h = absurd h
@@ -123,7 +113,6 @@ words_stops words (status.Script fault) h = tt
 words_stops words status.ReadFault h = tt
 words_stops words status.WriteFault h = absurd h
 words_stops words status.NoMemory h = tt
-words_stops words (status.NotBuilt what) h = tt
 
 pub words_told : (words : List (List ℕ)) (s : Status) → StopsWords words s → OfWords (command_line words) s
 words_told words status.Done h = absurd h
@@ -134,8 +123,6 @@ words_told words (status.Script fault) h = absurd h
 words_told words status.ReadFault h = absurd h
 words_told words status.WriteFault h = absurd h
 words_told words status.NoMemory h = no_memory (command_line words)
-words_told words (status.NotBuilt unbuilt.Words) h = subst (λ (a : CommandLine). OfWords a (status.NotBuilt unbuilt.Words)) (sym h) (inl refl)
-words_told words (status.NotBuilt (unbuilt.Statement n)) h = absurd h
 
 -- the same of the status once its line was written
 pub reported_words : (asked : CommandLine) (s r : Status) → (r ≡ s) ⊎ ((r ≡ status.NoMemory) × (s ≡ status.Done → ⊥)) → OfWords asked s → OfWords asked r
@@ -146,9 +133,9 @@ reported_words asked s r (inr is) h = subst (λ (x : Status). OfWords asked x) (
 pub asks_for : (words : List (List ℕ)) (asked : Asked) (task : Task) → command_line words ≡ line.Asked asked → asked.task ≡ task → AsksFor (command_line words) task
 asks_for words asked task is same = subst (λ (a : CommandLine). AsksFor a task) (sym is) same
 
--- and so they are not without a script
-pub not_none : {A : Type 0} (words : List (List ℕ)) (asked : Asked) → command_line words ≡ line.Asked asked → NamesNone (command_line words) → A
-not_none words asked is none = absurd (subst (λ (a : CommandLine). NamesNone a) is none)
+-- and where they name no file, it is none
+pub named_none : (words : List (List ℕ)) (asked : Asked) → command_line words ≡ line.Asked asked → NamesNone (command_line words) → NamesNoFile asked.source
+named_none words asked is none = subst NamesNone is none
 
 -- ---- the output
 
@@ -156,20 +143,20 @@ is_due : (held : Option Held) (words : List (List ℕ)) (job : Job) → IsExpect
 is_due None words job h task = task
 is_due (Some files) words job h task = h
 
-pub prints : (answer : Answer) (held : Option Held) (words : List (List ℕ)) (job : Job) (old new : Written) → IsExpectedOf held (λ files. Expects files words) (Ok job) → AsksFor (command_line words) job.task → new ≡ appended old (output answer job) → Means answer held words status.Done old new
-prints answer held words job old new h task e = record { job = job; due = is_due held words job h task; printed = e }
+pub prints : (answer : Answer) (held : Option Held) (words : List (List ℕ)) (job : Job) (old new : Written) (a b : ℕ) → IsExpectedOf held (λ files. Expects files words) (Ok job) → AsksFor (command_line words) job.task → new ≡ appended old (output answer job) → b ≤ a + job_work answer job → Means answer held words status.Done old new a b
+prints answer held words job old new a b h task e w = record { job = job; due = is_due held words job h task; printed = e; worked = w }
 
-pub prints_front : (answer : Answer) (held : Option Held) (words : List (List ℕ)) (job : Job) (old new : Written) → IsExpectedOf held (λ files. Expects files words) (Ok job) → AsksFor (command_line words) job.task → GrewByFront old new (output answer job) → Means answer held words status.WriteFault old new
-prints_front answer held words job old new h task e = record { job = job; due = is_due held words job h task; printed = e }
+pub prints_front : (answer : Answer) (held : Option Held) (words : List (List ℕ)) (job : Job) (old new : Written) (a b : ℕ) → IsExpectedOf held (λ files. Expects files words) (Ok job) → AsksFor (command_line words) job.task → GrewByFront old new (output answer job) → Means answer held words status.WriteFault old new a b
+prints_front answer held words job old new a b h task e = record { job = job; due = is_due held words job h task; printed = e }
 
-pub lacks_memory : (answer : Answer) (held : Option Held) (words : List (List ℕ)) (job : Job) (old new : Written) → IsExpectedOf held (λ files. Expects files words) (Ok job) → AsksFor (command_line words) job.task → GrewByFront old new (output answer job) → Means answer held words status.NoMemory old new
-lacks_memory answer held words job old new h task e = inr (record { job = job; due = is_due held words job h task; printed = e })
+pub lacks_memory : (answer : Answer) (held : Option Held) (words : List (List ℕ)) (job : Job) (old new : Written) (a b : ℕ) → IsExpectedOf held (λ files. Expects files words) (Ok job) → AsksFor (command_line words) job.task → GrewByFront old new (output answer job) → Means answer held words status.NoMemory old new a b
+lacks_memory answer held words job old new a b h task e = inr (record { job = job; due = is_due held words job h task; printed = e })
 
 -- the same of the status once its line was written
-pub reported_means : (answer : Answer) (held : Option Held) (words : List (List ℕ)) (s r : Status) (old new : Written) → (r ≡ s) ⊎ ((r ≡ status.NoMemory) × (s ≡ status.Done → ⊥)) → Means answer held words s old new → Means answer held words r old new
-reported_means answer held words s r old new (inl is) h = subst (λ (x : Status). Means answer held words x old new) (sym is) h
-reported_means answer held words s r old new (inr is) h = subst (λ (x : Status). Means answer held words x old new) (sym is.0) (without s is.1 h) where
-  without : (t : Status) → (t ≡ status.Done → ⊥) → Means answer held words t old new → Means answer held words status.NoMemory old new
+pub reported_means : (answer : Answer) (held : Option Held) (words : List (List ℕ)) (s r : Status) (old new : Written) (a b : ℕ) → (r ≡ s) ⊎ ((r ≡ status.NoMemory) × (s ≡ status.Done → ⊥)) → Means answer held words s old new a b → Means answer held words r old new a b
+reported_means answer held words s r old new a b (inl is) h = subst (λ (x : Status). Means answer held words x old new a b) (sym is) h
+reported_means answer held words s r old new a b (inr is) h = subst (λ (x : Status). Means answer held words x old new a b) (sym is.0) (without s is.1 h) where
+  without : (t : Status) → (t ≡ status.Done → ⊥) → Means answer held words t old new a b → Means answer held words status.NoMemory old new a b
   without status.Done n k = absurd (n refl)
   without status.Usage n k = inl k.1
   without (status.Absent role) n k = inl k.1
@@ -178,4 +165,3 @@ reported_means answer held words s r old new (inr is) h = subst (λ (x : Status)
   without status.ReadFault n k = inl k
   without status.WriteFault n k = inr k
   without status.NoMemory n k = k
-  without (status.NotBuilt what) n k = inl k.1

@@ -1,5 +1,5 @@
 -- Counts of files that only rise.
-use Rattle.std.proofs.Common.{◌≡◌, ◌∙◌, ◌≤◌, ℕ, List, refl, arith}
+use Rattle.std.proofs.Common.{◌∙◌, ◌≤◌, ℕ, refl, arith}
 use Rattle.surge_outside.specs.Counts.{HasRisen}
 use Rattle.surge_cli.specs.FilesState.{FilesState, GoesOn}
 

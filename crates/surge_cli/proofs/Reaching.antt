@@ -4,13 +4,11 @@ use Rattle.std.specs.Prelude.{IfErr, ◌⊎◌}
 use Rattle.gvdl_tree.specs.declared.script.Script.{Script}
 use Rattle.surge_cli.specs.declared.status.FileRole.{FileRole}
 use Rattle.surge_cli.specs.declared.status.FileRole.TheVariants as role
-use Rattle.surge_cli.specs.declared.words.Asked.{Asked}
-use Rattle.surge_cli.specs.declared.status.Unbuilt.TheVariants as unbuilt
 use Rattle.surge_cli.specs.declared.status.Status.{Status}
 use Rattle.surge_cli.specs.declared.status.Status.TheVariants as status
 use Rattle.surge_cli.specs.FilesState.{FilesState, GoesOn}
 use Rattle.surge_cli.specs.Expected.{Held}
-use Rattle.surge_cli.specs.Reaches.{HasScript, ReachesData, ReachesAsked}
+use Rattle.surge_cli.specs.Reaches.{HasScript, ReachesData, ReachesNamed}
 use Rattle.surge_cli.specs.Causes.{RisesAt, Counts, Causes}
 use Rattle.surge_cli.specs.Stages.{IsInner, IsFile, RisesBefore, StopsWords}
 use Rattle.surge_cli.proofs.GoingOn.{risen_since}
@@ -22,10 +20,10 @@ pub at_file : (P : FileRole → List ℕ → Type 0) (role : FileRole) (name : L
 at_file P role name h r n is = subst (λ (x : FileRole). P x n) (sym is.0) (subst (λ (x : List ℕ). P role x) (sym is.1) h)
 
 -- the data files are reached behind the script
-pub data_asked : (held : Option Held) (asked : Asked) (script : Script) → HasScript held asked.script script → (r : FileRole) (n : List ℕ) → ReachesData held script r n → ReachesAsked held asked r n
-data_asked held asked script has role.Script n h = absurd h
-data_asked held asked script has role.Nodes n h = (script, has, h)
-data_asked held asked script has role.Edges n h = (script, has, h)
+pub data_named : (held : Option Held) (file : List ℕ) (script : Script) → HasScript held file script → (r : FileRole) (n : List ℕ) → ReachesData held script r n → ReachesNamed held file r n
+data_named held file script has role.Script n h = absurd h
+data_named held file script has role.Nodes n h = (script, has, h)
+data_named held file script has role.Edges n h = (script, has, h)
 
 -- ---- counts
 
@@ -42,7 +40,6 @@ rises_so P Q (status.Script fault) a b c to on h = tt
 rises_so P Q status.ReadFault a b c to on h = (h.0, mapped P Q h.0 a.faults b.faults c.faults to on.faults h.1)
 rises_so P Q status.WriteFault a b c to on h = tt
 rises_so P Q status.NoMemory a b c to on h = tt
-rises_so P Q (status.NotBuilt what) a b c to on h = tt
 
 -- the same of what a stage answers
 pub stage_rises : {A : Type 0} (P Q : FileRole → List ℕ → Type 0) (r : Result A Status) (a b c : FilesState) → ((r : FileRole) (n : List ℕ) → P r n → Q r n) → GoesOn a b → IfErr r (λ s. RisesBefore P s b c) → IfErr r (λ s. RisesBefore Q s a c)
@@ -58,7 +55,6 @@ inner_rises P (status.Script fault) a b h = tt
 inner_rises P status.ReadFault a b h = absurd h
 inner_rises P status.WriteFault a b h = tt
 inner_rises P status.NoMemory a b h = tt
-inner_rises P (status.NotBuilt what) a b h = tt
 
 -- a stage that asks nothing of the files
 pub inner_counts : {A : Type 0} (P : FileRole → List ℕ → Type 0) (r : Result A Status) (a b : FilesState) → IfErr r IsInner → IfErr r (λ s. RisesBefore P s a b)
@@ -75,7 +71,6 @@ words_rise P words (status.Script fault) a b h = tt
 words_rise P words status.ReadFault a b h = absurd h
 words_rise P words status.WriteFault a b h = tt
 words_rise P words status.NoMemory a b h = tt
-words_rise P words (status.NotBuilt what) a b h = tt
 
 -- ---- the counts of all ends
 

@@ -3,9 +3,10 @@ use Rattle.std.specs.Prelude.{◌≡◌, ◌⊎◌, ℕ, List, Ok, Err}
 use Rattle.surge_outside.specs.Counts.{HasRisen}
 use Rattle.surge_outside.specs.Written.{appended, GrewByFront}
 use Rattle.surge_cli.specs.declared.status.FileRole.{FileRole}
-use Rattle.surge_cli.specs.declared.status.Unbuilt.TheVariants as unbuilt
 use Rattle.surge_cli.specs.declared.status.Status.{Status}
 use Rattle.surge_cli.specs.declared.status.Status.TheVariants as status
+use Rattle.surge_cli.specs.declared.words.Source.{Source}
+use Rattle.surge_cli.specs.declared.words.Source.TheVariants as source
 use Rattle.surge_cli.specs.declared.words.CommandLine.{CommandLine}
 use Rattle.surge_cli.specs.declared.words.CommandLine.TheVariants as line
 use Rattle.surge_cli.specs.declared.job.Job.{Job}
@@ -19,20 +20,22 @@ use Rattle.surge_cli.specs.Headline.{Written}
 -- a status that does not come from the words
 abbrev pub IsLater : Status → Type 0
 IsLater status.Usage = ⊥
-IsLater (status.NotBuilt unbuilt.Words) = ⊥
 IsLater _ = Unit {0}
 
 -- a status to these words, whatever the files do: words that are not of the form are answered Usage and no others are, but
--- for want of memory; and likewise for words that ask for what is not built yet
+-- for want of memory
 abbrev pub OfWords : CommandLine → Status → Type 0
 OfWords line.NotOfForm s = (s ≡ status.Usage) ⊎ (s ≡ status.NoMemory)
-OfWords line.NotBuilt s = (s ≡ status.NotBuilt unbuilt.Words) ⊎ (s ≡ status.NoMemory)
 OfWords (line.Asked asked) s = IsLater s
 
--- the words name no script
+-- the words name no file
+abbrev pub NamesNoFile : Source → Type 0
+NamesNoFile (source.Script name) = ⊥
+NamesNoFile (source.Sample number) = Unit {0}
+
 abbrev pub NamesNone : CommandLine → Type 0
-NamesNone (line.Asked asked) = ⊥
-NamesNone _ = Unit {0}
+NamesNone line.NotOfForm = Unit {0}
+NamesNone (line.Asked asked) = NamesNoFile asked.source
 
 -- ---- the counts
 
@@ -67,7 +70,6 @@ AgreesWith status.Usage e = e ≡ Err status.Usage
 AgreesWith (status.Absent role) e = e ≡ Err (status.Absent role)
 AgreesWith (status.Data fault) e = e ≡ Err (status.Data fault)
 AgreesWith (status.Script fault) e = e ≡ Err (status.Script fault)
-AgreesWith (status.NotBuilt what) e = e ≡ Err (status.NotBuilt what)
 AgreesWith _ e = Unit {0}
 
 -- ---- what is reported

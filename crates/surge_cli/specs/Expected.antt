@@ -1,7 +1,7 @@
 -- What is expected of the program over files that are told: what is to be done, or the refusal. The first refusal in this
 -- order is the status: the words; the script fetched, and read; the nodes fetched; the edges fetched; the nodes and then
 -- the edges read; the script checked against its graph.
-use Rattle.std.specs.Prelude.{◌≡◌, ◌⊎◌, ℕ, nat_lt, List, length, if◌then◌else◌, Option, Some, None, Result, Ok, Err}
+use Rattle.std.specs.Prelude.{◌≡◌, ◌⊎◌, ℕ, nat_lt, List, [], length, if◌then◌else◌, Option, Some, None, Result, Ok, Err}
 use Rattle.surge_outside.specs.Held.{file_at}
 use Rattle.graph_model.specs.GraphData.{GraphData}
 use Rattle.graph_loader.specs.DataFiles.{graph_of}
@@ -19,9 +19,11 @@ use Rattle.gvdl_check.specs.declared.plan.Plan.{Plan}
 use Rattle.gvdl_check.specs.Plans.{plan}
 use Rattle.surge_cli.specs.declared.status.FileRole.{FileRole}
 use Rattle.surge_cli.specs.declared.status.FileRole.TheVariants as role
-use Rattle.surge_cli.specs.declared.status.Unbuilt.TheVariants as unbuilt
 use Rattle.surge_cli.specs.declared.status.Status.{Status}
 use Rattle.surge_cli.specs.declared.status.Status.TheVariants as status
+use Rattle.sample_data.specs.Sample.{nodes_text, edges_text, script_text}
+use Rattle.surge_cli.specs.declared.words.Source.{Source}
+use Rattle.surge_cli.specs.declared.words.Source.TheVariants as source
 use Rattle.surge_cli.specs.declared.words.Task.{Task}
 use Rattle.surge_cli.specs.declared.words.CommandLine.{CommandLine}
 use Rattle.surge_cli.specs.declared.words.CommandLine.TheVariants as line
@@ -79,12 +81,10 @@ abbrev pub loaded : Result GraphData DataFault → Result GraphData Status
 loaded (Ok graph) = Ok graph
 loaded (Err fault) = Err (status.Data fault)
 
--- the plan of the script over its graph, its first fault, or the first statement that is not built (a plan's definition
--- never speaks of memory)
+-- the plan of the script over its graph, or its first fault (a plan's definition never speaks of memory)
 abbrev pub planned : Result Plan CheckFault → Result Plan Status
 planned (Ok plan) = Ok plan
 planned (Err (check_fault.Fault fault)) = Err (status.Script fault)
-planned (Err (check_fault.NotBuilt n)) = Err (status.NotBuilt (unbuilt.Statement n))
 planned (Err check_fault.NoMemory) = Err status.NoMemory
 
 -- the graph that these bytes of a nodes file and the edges file of a script spell
@@ -113,22 +113,37 @@ job_for held task script = do
 
 -- ---- the script
 
--- the text is a script, or has a first fault
-abbrev pub ExpectsOfText : Held → Task → List ℕ → Expectation → Type 0
-ExpectsOfText held task text e = ((script : Script) × IsScript text script × (e ≡ job_for held task script))
+-- the text is a script, of which this is to be done, or has a first fault
+abbrev pub ExpectsOfText : (Script → Result Job Status) → List ℕ → Expectation → Type 0
+ExpectsOfText job text e = ((script : Script) × IsScript text script × (e ≡ job script))
     ⊎ ((fault : ScriptFault) × IsFirstFault text fault × (e ≡ Err (status.Script fault)))
 
-abbrev pub ExpectsOfFile : Held → Task → Result (List ℕ) Status → Expectation → Type 0
-ExpectsOfFile held task (Ok text) e = ExpectsOfText held task text e
-ExpectsOfFile held task (Err s) e = e ≡ Err s
+abbrev pub ExpectsOfFile : (Script → Result Job Status) → Result (List ℕ) Status → Expectation → Type 0
+ExpectsOfFile job (Ok text) e = ExpectsOfText job text e
+ExpectsOfFile job (Err s) e = e ≡ Err s
+
+-- ---- the sample
+
+-- the graph of the sample with this number
+abbrev pub sample_graph : ℕ → Result GraphData Status
+sample_graph number = loaded (graph_of nodes_text (edges_text number))
+
+-- what is to be done of the script over the sample
+abbrev pub job_sampled : ℕ → Task → Script → Result Job Status
+job_sampled number task script = do
+  graph ← sample_graph number
+  job_over task script graph
 
 -- ---- the words
 
--- of words that are not of the form, of words that ask for what is not built yet, and of words that name a script
+abbrev pub ExpectsOfSource : Held → Source → Task → Expectation → Type 0
+ExpectsOfSource held (source.Script name) task e = ExpectsOfFile (job_for held task) (fetched held role.Script name) e
+ExpectsOfSource held (source.Sample number) task e = ExpectsOfText (job_sampled number task) script_text e
+
+-- of words that are not of the form, and of words that name a script
 abbrev pub ExpectsAsked : Held → CommandLine → Expectation → Type 0
 ExpectsAsked held line.NotOfForm e = e ≡ Err status.Usage
-ExpectsAsked held line.NotBuilt e = e ≡ Err (status.NotBuilt unbuilt.Words)
-ExpectsAsked held (line.Asked asked) e = ExpectsOfFile held asked.task (fetched held role.Script asked.script) e
+ExpectsAsked held (line.Asked asked) e = ExpectsOfSource held asked.source asked.task e
 
 -- what is expected of the program, given these files and these words
 abbrev pub Expects : Held → List (List ℕ) → Expectation → Type 0
@@ -138,3 +153,18 @@ Expects held words e = ExpectsAsked held (command_line words) e
 pub record IsOnly (expects : Expectation → Type 0) (e : Expectation) : Type 0 where
   pub holds : expects e
   pub only : (other : Expectation) → expects other → other ≡ e
+
+-- ---- what is told
+
+-- What the files hold matters to a script in a file alone: of the sample all is told, whatever the files tell.
+abbrev pub told_of : Source → Option Held → Option Held
+told_of (source.Script name) held = held
+told_of (source.Sample number) held = Some []
+
+abbrev pub told_by : CommandLine → Option Held → Option Held
+told_by line.NotOfForm held = held
+told_by (line.Asked asked) held = told_of asked.source held
+
+-- what is told to these words
+abbrev pub told : Option Held → List (List ℕ) → Option Held
+told held words = told_by (command_line words) held

@@ -1,5 +1,5 @@
 -- The headline: what each status means, and what was written to the output by then.
-use Rattle.std.specs.Prelude.{◌≡◌, ◌⊎◌, ℕ, List, Option, Some, None, Ok, Err}
+use Rattle.std.specs.Prelude.{◌≡◌, ◌≤◌, ◌+◌, ◌⊎◌, ℕ, List, Option, Some, None, Ok, Err}
 use Rattle.surge_outside.specs.Written.{appended, GrewByFront}
 use Rattle.vertex_lang.specs.Expressions.{Answer}
 use Rattle.surge_cli.specs.declared.status.Status.{Status}
@@ -9,7 +9,7 @@ use Rattle.surge_cli.specs.declared.words.CommandLine.{CommandLine}
 use Rattle.surge_cli.specs.declared.words.CommandLine.TheVariants as line
 use Rattle.surge_cli.specs.declared.job.Job.{Job}
 use Rattle.surge_cli.specs.Words.{command_line}
-use Rattle.surge_cli.specs.Output.{output}
+use Rattle.surge_cli.specs.Output.{output, job_work}
 use Rattle.surge_cli.specs.Expected.{Held, Expects, IsOnly}
 
 -- what was written before and after, where it is told
@@ -31,11 +31,13 @@ abbrev pub IsRefusal : Option Held → List (List ℕ) → Status → Type 0
 IsRefusal (Some held) words s = IsOnly (Expects held words) (Err s)
 IsRefusal None words s = Unit {0}
 
--- a job is due, and all that it prints was written; `answer` is the updater's
-pub record Prints (answer : Answer) (held : Option Held) (words : List (List ℕ)) (old new : Written) : Type 0 where
+-- A job is due, and all that it prints was written; `answer` is the updater's, and these are the numbers of its calls before
+-- and after.
+pub record Prints (answer : Answer) (held : Option Held) (words : List (List ℕ)) (old new : Written) (calls calls_after : ℕ) : Type 0 where
   pub job : Job
   pub due : IsDue held words job
   pub printed : new ≡ appended old (output answer job)
+  pub worked : calls_after ≤ calls + job_work answer job
 
 -- a job is due, and a front of what it prints was written
 pub record PrintsFront (answer : Answer) (held : Option Held) (words : List (List ℕ)) (old new : Written) : Type 0 where
@@ -43,14 +45,13 @@ pub record PrintsFront (answer : Answer) (held : Option Held) (words : List (Lis
   pub due : IsDue held words job
   pub printed : GrewByFront old new (output answer job)
 
--- what a status means
-abbrev pub Means : Answer → Option Held → List (List ℕ) → Status → (old new : Written) → Type 0
-Means answer held words status.Done old new = Prints answer held words old new
-Means answer held words status.Usage old new = IsRefusal held words status.Usage × (new ≡ old)
-Means answer held words (status.Absent role) old new = IsRefusal held words (status.Absent role) × (new ≡ old)
-Means answer held words (status.Data fault) old new = IsRefusal held words (status.Data fault) × (new ≡ old)
-Means answer held words (status.Script fault) old new = IsRefusal held words (status.Script fault) × (new ≡ old)
-Means answer held words status.ReadFault old new = new ≡ old
-Means answer held words status.WriteFault old new = PrintsFront answer held words old new
-Means answer held words status.NoMemory old new = (new ≡ old) ⊎ PrintsFront answer held words old new
-Means answer held words (status.NotBuilt what) old new = IsRefusal held words (status.NotBuilt what) × (new ≡ old)
+-- what a status means, where this is told of the files
+abbrev pub Means : Answer → Option Held → List (List ℕ) → Status → (old new : Written) → (calls calls_after : ℕ) → Type 0
+Means answer held words status.Done old new a b = Prints answer held words old new a b
+Means answer held words status.Usage old new a b = IsRefusal held words status.Usage × (new ≡ old)
+Means answer held words (status.Absent role) old new a b = IsRefusal held words (status.Absent role) × (new ≡ old)
+Means answer held words (status.Data fault) old new a b = IsRefusal held words (status.Data fault) × (new ≡ old)
+Means answer held words (status.Script fault) old new a b = IsRefusal held words (status.Script fault) × (new ≡ old)
+Means answer held words status.ReadFault old new a b = new ≡ old
+Means answer held words status.WriteFault old new a b = PrintsFront answer held words old new
+Means answer held words status.NoMemory old new a b = (new ≡ old) ⊎ PrintsFront answer held words old new

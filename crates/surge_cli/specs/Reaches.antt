@@ -5,6 +5,8 @@ use Rattle.gvdl_parser.specs.declared.fault.ScriptFault.{ScriptFault}
 use Rattle.gvdl_parser.specs.Script.{IsScript, IsFirstFault}
 use Rattle.surge_cli.specs.declared.status.FileRole.{FileRole}
 use Rattle.surge_cli.specs.declared.status.FileRole.TheVariants as role
+use Rattle.surge_cli.specs.declared.words.Source.{Source}
+use Rattle.surge_cli.specs.declared.words.Source.TheVariants as source
 use Rattle.surge_cli.specs.declared.words.Asked.{Asked}
 use Rattle.surge_cli.specs.declared.words.CommandLine.TheVariants as line
 use Rattle.surge_cli.specs.Words.{command_line}
@@ -32,11 +34,19 @@ ReachesData held script role.Script name = ⊥
 ReachesData held script role.Nodes name = name ≡ script.nodes
 ReachesData held script role.Edges name = (nodes : List ℕ) × IsFetched held role.Nodes script.nodes nodes × (name ≡ script.edges)
 
--- behind the words: the script first, and the data where it is a script
+-- behind the words: the script in this file first, and the data where it is a script
+abbrev pub ReachesNamed : Option Held → List ℕ → FileRole → (name : List ℕ) → Type 0
+ReachesNamed held file role.Script name = name ≡ file
+ReachesNamed held file role.Nodes name = (script : Script) × HasScript held file script × ReachesData held script role.Nodes name
+ReachesNamed held file role.Edges name = (script : Script) × HasScript held file script × ReachesData held script role.Edges name
+
+-- no file is read for the sample
+abbrev pub ReachesOf : Option Held → Source → FileRole → (name : List ℕ) → Type 0
+ReachesOf held (source.Script file) role name = ReachesNamed held file role name
+ReachesOf held (source.Sample number) role name = ⊥
+
 abbrev pub ReachesAsked : Option Held → Asked → FileRole → (name : List ℕ) → Type 0
-ReachesAsked held asked role.Script name = name ≡ asked.script
-ReachesAsked held asked role.Nodes name = (script : Script) × HasScript held asked.script script × ReachesData held script role.Nodes name
-ReachesAsked held asked role.Edges name = (script : Script) × HasScript held asked.script script × ReachesData held script role.Edges name
+ReachesAsked held asked role name = ReachesOf held asked.source role name
 
 -- the words name a script, and the file of this role and name is read next
 abbrev pub Reaches : Option Held → List (List ℕ) → FileRole → (name : List ℕ) → Type 0

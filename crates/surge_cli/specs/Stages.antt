@@ -5,7 +5,6 @@ use Rattle.gvdl_parser.specs.declared.fault.ScriptFault.{ScriptFault}
 use Rattle.gvdl_parser.specs.Script.{IsScript, IsFirstFault}
 use Rattle.surge_cli.specs.declared.status.FileRole.{FileRole}
 use Rattle.surge_cli.specs.declared.status.FileRole.TheVariants as role
-use Rattle.surge_cli.specs.declared.status.Unbuilt.TheVariants as unbuilt
 use Rattle.surge_cli.specs.declared.status.Status.{Status}
 use Rattle.surge_cli.specs.declared.status.Status.TheVariants as status
 use Rattle.surge_cli.specs.declared.words.CommandLine.TheVariants as line
@@ -35,7 +34,6 @@ abbrev pub IsStage : Status → Type 0
 IsStage status.Done = ⊥
 IsStage status.Usage = ⊥
 IsStage status.WriteFault = ⊥
-IsStage (status.NotBuilt unbuilt.Words) = ⊥
 IsStage _ = Unit {0}
 
 -- a status of a stage that asks nothing of the files
@@ -43,7 +41,6 @@ abbrev pub IsInner : Status → Type 0
 IsInner (status.Data fault) = Unit {0}
 IsInner (status.Script fault) = Unit {0}
 IsInner status.NoMemory = Unit {0}
-IsInner (status.NotBuilt (unbuilt.Statement n)) = Unit {0}
 IsInner _ = ⊥
 
 -- the file of one fetch
@@ -82,7 +79,6 @@ IsExpectedOf held expects result = IfSome held (λ files. IsExpected (expects fi
 abbrev pub StopsWords : List (List ℕ) → Status → Type 0
 StopsWords words status.Usage = command_line words ≡ line.NotOfForm
 StopsWords words status.NoMemory = Unit {0}
-StopsWords words (status.NotBuilt unbuilt.Words) = command_line words ≡ line.NotBuilt
 StopsWords words _ = ⊥
 
 -- ---- the script

@@ -10,7 +10,6 @@ use Rattle.gvdl_parser.specs.declared.fault.ScriptFault.{ScriptFault}
 use Rattle.gvdl_parser.specs.declared.fault.ScriptFault.TheVariants as faulty
 use Rattle.surge_cli.specs.declared.status.FileRole.{FileRole}
 use Rattle.surge_cli.specs.declared.status.FileRole.TheVariants as role
-use Rattle.surge_cli.specs.declared.status.Unbuilt.TheVariants as unbuilt
 use Rattle.surge_cli.specs.declared.status.Status.{Status}
 use Rattle.surge_cli.specs.declared.status.Status.TheVariants as status
 
@@ -23,7 +22,6 @@ status_number (status.Script fault) = 5
 status_number status.ReadFault = 6
 status_number status.WriteFault = 7
 status_number status.NoMemory = 8
-status_number (status.NotBuilt what) = 9
 
 abbrev pub role_text : FileRole → List ℕ
 role_text role.Script = codes "script"
@@ -103,10 +101,6 @@ where_text (faulty.BadSplit n) = statement_text n
 abbrev pub script_line : ScriptFault → List ℕ
 script_line fault = codes "surge: script: " ++ (where_text fault ++ (script_fault_name fault ++ 10 ∷ []))
 
--- the line of a statement that is not built
-abbrev pub statement_line : ℕ → List ℕ
-statement_line n = codes "surge: not built: statement " ++ (decimal n ++ 10 ∷ [])
-
 -- one line, or nothing where the run is done
 abbrev pub status_line : Status → List ℕ
 status_line status.Done = []
@@ -117,5 +111,3 @@ status_line (status.Script fault) = script_line fault
 status_line status.ReadFault = line_of (codes "read fault")
 status_line status.WriteFault = line_of (codes "write fault")
 status_line status.NoMemory = line_of (codes "out of memory")
-status_line (status.NotBuilt unbuilt.Words) = line_of (codes "not built: words")
-status_line (status.NotBuilt (unbuilt.Statement n)) = statement_line n

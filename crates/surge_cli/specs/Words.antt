@@ -7,6 +7,7 @@ use Rattle.std.specs.Str.Parse.{digits_value}
 use Rattle.clap.specs.Words.{App, Rule, Row, new_app, new_rule, with_rule, first_of, matches_of}
 use Rattle.clap.specs.Faults.{fault_of}
 use Rattle.clap.specs.Kinds.{Kinds}
+use Rattle.result_tables.specs.declared.form.Form.TheVariants as form
 use Rattle.surge_cli.specs.declared.words.Source.{Source}
 use Rattle.surge_cli.specs.declared.words.Source.TheVariants as source
 use Rattle.surge_cli.specs.declared.words.Mode.{Mode}
@@ -89,22 +90,19 @@ request_from rows =
 abbrev pub request_of : List (List ℕ) → Option Request
 request_of words = option_and_then request_from (matched words)
 
-abbrev pub asked_for : List ℕ → Task → Asked
-asked_for name what = record { script = name; task = what }
+-- what is done in a mode; in the mode `check` nothing is turned
+abbrev pub task_of : Mode → Option ℕ → Task
+task_of mode.Run turns = task.Run form.Tables turns
+task_of mode.Summary turns = task.Run form.Summary turns
+task_of mode.Check turns = task.Check
 
--- what a request comes to: a script and what is done of it, where requests of its kind are built: so far without the
--- sample, turns and the summary
-abbrev pub asked_by : Source → Mode → Option ℕ → CommandLine
-asked_by (source.Script name) mode.Run None = line.Asked (asked_for name task.Run)
-asked_by (source.Script name) mode.Check None = line.Asked (asked_for name task.Check)
-asked_by _ _ _ = line.NotBuilt
-
-abbrev pub asked_of : Request → CommandLine
-asked_of request = asked_by request.source request.mode request.turns
+-- a script and what is done of it
+abbrev pub asked_of : Request → Asked
+asked_of request = record { source = request.source; task = task_of request.mode request.turns }
 
 abbrev pub line_of : Option Request → CommandLine
 line_of None = line.NotOfForm
-line_of (Some request) = asked_of request
+line_of (Some request) = line.Asked (asked_of request)
 
 -- what the words of the command line come to
 unfoldable pub command_line : List (List ℕ) → CommandLine

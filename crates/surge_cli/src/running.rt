@@ -5,7 +5,7 @@ ghost use Rattle.std.specs.IoError.{error_kind};
 ghost use Rattle.std.specs.declared.io.ErrorKind.TheVariants.{OutOfMemory};
 ghost use Rattle.surge_cli.specs.StatusText.{status_line};
 ghost use Rattle.surge_cli.specs.Words.{command_line};
-ghost use Rattle.surge_cli.specs.Expected.{Expectation, Expects};
+ghost use Rattle.surge_cli.specs.Expected.{Expectation, Expects, told};
 ghost use Rattle.surge_cli.specs.Headline.{Means};
 ghost use Rattle.surge_cli.specs.Reaches.{Reaches};
 ghost use Rattle.surge_cli.specs.Causes.{OfWords, NamesNone, counts, Causes, AgreesWith, Reports};
@@ -27,7 +27,7 @@ fn run<F: NamedFiles, O: Sink, U: Updater>(
     out: &mut O,
     updater: &mut U,
 ) -> Status
-    ensures headline { Means U.answer (F.state files.old).held (map string_bytes words.now) result (O.written out.old) (O.written out.new) }
+    ensures headline { Means U.answer (told (F.state files.old).held (map string_bytes words.now)) (map string_bytes words.now) result (O.written out.old) (O.written out.new) (U.calls updater.old) (U.calls updater.new) }
     ensures words { OfWords (command_line (map string_bytes words.now)) result }
     ensures unread { NamesNone (command_line (map string_bytes words.now)) → files.new ≡ files.old }
     ensures causes { Causes (Reaches (F.state files.old).held (map string_bytes words.now)) result (counts (F.state files.old) (O.faults out.old)) (counts (F.state files.new) (O.faults out.new)) }
@@ -86,10 +86,11 @@ fn report<E: Sink>(alloc: Global, status: Status, err: &mut E) -> Status
 /// `err` as one line.
 ///
 /// The words are the program's name and `(--script FILE | --sample N) [--mode run|check|summary] [--turns N]`, as `clap`
-/// reads four options that each take one text; so far only `--script` is built, with the modes `run` and `check`, and of
-/// statements all but a run with a split and a show of work. What is told of the files decides the status, unless the
-/// outside fails or memory is wanting: the first refusal in the order of reading, or the output. Views and collections of
-/// views are those of Graphsurge (Sahu and Salihoglu 2021).
+/// reads four options that each take one text. A sample takes the place of the three files: of them nothing is asked then.
+/// With `summary` one line is written for each table. Turns draw the order in which the segments of a run are stepped, and
+/// change nothing that is written. What is told of the files decides the status, unless the outside fails or memory is
+/// wanting: the first refusal in the order of reading, or the output. Views and collections of views are those of
+/// Graphsurge (Sahu and Salihoglu 2021).
 pub fn surge<F: NamedFiles, O: Sink, E: Sink, U: Updater>(
     alloc: Global,
     words: &[String],
@@ -98,16 +99,16 @@ pub fn surge<F: NamedFiles, O: Sink, E: Sink, U: Updater>(
     err: &mut E,
     updater: &mut U,
 ) -> Status
-    // The headline: what each status means, and what was written by then, for every updater.
-    ensures headline { Means U.answer (F.state files.old).held (map string_bytes words.now) result (O.written out.old) (O.written out.new) }
+    // The headline: what each status means, what was written by then, for every updater, and how often it was called.
+    ensures headline { Means U.answer (told (F.state files.old).held (map string_bytes words.now)) (map string_bytes words.now) result (O.written out.old) (O.written out.new) (U.calls updater.old) (U.calls updater.new) }
 
     // What is expected of the files is the status, unless it came from the outside.
-    ensures exact { IfSome (F.state files.old).held (λ held. (e : Expectation) → Expects held (map string_bytes words.now) e → AgreesWith result e) }
+    ensures exact { IfSome (told (F.state files.old).held (map string_bytes words.now)) (λ held. (e : Expectation) → Expects held (map string_bytes words.now) e → AgreesWith result e) }
 
     // Words that are not of the form are answered Usage and no others are, whatever the files do, but for want of memory.
     ensures words { OfWords (command_line (map string_bytes words.now)) result }
 
-    // Where the words name no script, nothing is asked of the files.
+    // Where the words name no file, nothing is asked of the files.
     ensures unread { NamesNone (command_line (map string_bytes words.now)) → files.new ≡ files.old }
 
     // An absence, a read fault or a write fault comes only where its count rose, and one of a file only where that file was

@@ -1,12 +1,12 @@
 //! Does a job: executes a plan and writes what its statements print, or writes a script's canonical text.
 
-ghost use Rattle.std.specs.Prelude.{◌≡◌, ◌≤◌, OnOk, OnErr};
+ghost use Rattle.std.specs.Prelude.{◌≡◌, ◌≤◌, ◌+◌, OnOk, OnErr};
 ghost use Rattle.surge_outside.specs.Counts.{HasRisen};
 ghost use Rattle.surge_outside.specs.Written.{GrewByFront, appended};
 ghost use Rattle.gvdl_check.specs.Fits.{PlanFits};
 ghost use Rattle.gvdl_printer.specs.Canonical.{canonical};
-ghost use Rattle.surge_session.specs.Output.{plan_text};
-ghost use Rattle.surge_cli.specs.Output.{output};
+ghost use Rattle.surge_session.specs.Output.{plan_text, plan_work};
+ghost use Rattle.surge_cli.specs.Output.{output, job_work};
 
 use crate::job::Job;
 use crate::words::Task;
@@ -25,16 +25,19 @@ fn run_plan<O: Sink, U: Updater>(
     alloc: Global,
     graph: &Graph,
     plan: &Plan,
+    form: Form,
+    turns: Option<u64>,
     out: &mut O,
     updater: &mut U,
 ) -> Result<(), Trouble>
     requires { PlanFits graph.now plan.now }
-    ensures ok { OnOk result (O.written out.new ≡ appended (O.written out.old) (plan_text U.answer graph.now plan.now)) }
-    ensures err { OnErr result (GrewByFront (O.written out.old) (O.written out.new) (plan_text U.answer graph.now plan.now)) }
+    ensures ok { OnOk result (O.written out.new ≡ appended (O.written out.old) (plan_text U.answer form graph.now plan.now)) }
+    ensures err { OnErr result (GrewByFront (O.written out.old) (O.written out.new) (plan_text U.answer form graph.now plan.now)) }
+    ensures calls { OnOk result (U.calls updater.new ≤ U.calls updater.old + plan_work U.answer graph.now plan.now) }
     ensures faults { O.faults out.old ≤ O.faults out.new }
     ensures failed { result ≡ Err Trouble.Failed → HasRisen (O.faults out.old) (O.faults out.new) }
 {
-    match run_all(alloc, graph, plan, Form::Tables, None, out, updater) {
+    match run_all(alloc, graph, plan, form, turns, out, updater) {
         Ok(()) => Ok(()),
         Err(SessionFault::WriteFault) => Err(Trouble::Failed),
         Err(SessionFault::NoMemory) => Err(Trouble::NoMemory),
@@ -64,11 +67,14 @@ pub(crate) fn do_job<O: Sink, U: Updater>(
     requires { PlanFits job.now.graph job.now.plan }
     ensures ok { OnOk result (O.written out.new ≡ appended (O.written out.old) (output U.answer job.now)) }
     ensures err { OnErr result (GrewByFront (O.written out.old) (O.written out.new) (output U.answer job.now)) }
+    ensures calls { OnOk result (U.calls updater.new ≤ U.calls updater.old + job_work U.answer job.now) }
     ensures faults { O.faults out.old ≤ O.faults out.new }
     ensures failed { result ≡ Err Trouble.Failed → HasRisen (O.faults out.old) (O.faults out.new) }
 {
     match job.task {
-        Task::Run => run_plan(alloc, &job.graph, &job.plan, out, updater),
+        Task::Run(form, turns) => {
+            run_plan(alloc, &job.graph, &job.plan, form, turns, out, updater)
+        }
         Task::Check => write_script(alloc, &job.script, out),
     }
 }

@@ -5,24 +5,26 @@ ghost use Rattle.graph_loader.specs.DataFiles.{graph_of};
 ghost use Rattle.gvdl_check.specs.Fits.{PlanFits};
 ghost use Rattle.gvdl_check.specs.Plans.{plan};
 ghost use Rattle.gvdl_check.specs.Written.{IsWritten};
+ghost use Rattle.sample_data.specs.Sample.{script_text};
 ghost use Rattle.surge_cli.specs.FilesState.{GoesOn};
 ghost use Rattle.surge_cli.specs.Words.{command_line};
-ghost use Rattle.surge_cli.specs.Expected.{limit_of, too_large, large_of, fetched, loaded, planned, graph_with, graph_for, job_over, job_for, ExpectsAsked, Expects};
+ghost use Rattle.surge_cli.specs.Expected.{limit_of, too_large, large_of, fetched, loaded, planned, graph_with, graph_for, job_over, job_for, sample_graph, job_sampled, ExpectsOfText, ExpectsOfFile, ExpectsAsked, Expects, told_of, told};
 ghost use Rattle.surge_cli.specs.Headline.{AsksFor};
-ghost use Rattle.surge_cli.specs.Reaches.{IsTheScript, HasScript, ReachesData, ReachesAsked, Reaches};
-ghost use Rattle.surge_cli.specs.Causes.{OfWords, NamesNone};
-ghost use Rattle.surge_cli.specs.Stages.{IsStop, IsStage, IsInner, IsFile, RisesBefore, IsSaid, IsSaidOf, IsExpectedOf, StopsWords, StopsParse, StopsScript};
+ghost use Rattle.surge_cli.specs.Reaches.{IsTheScript, HasScript, ReachesData, ReachesNamed, ReachesAsked, Reaches};
+ghost use Rattle.surge_cli.specs.Causes.{OfWords, NamesNoFile, NamesNone};
+ghost use Rattle.surge_cli.specs.Stages.{IsStop, IsStage, IsInner, IsFile, RisesBefore, IsSaid, IsSaidOf, IsExpected, IsExpectedOf, StopsWords, StopsParse, StopsScript};
 
 use crate::job::Job;
 use crate::named_files::NamedFiles;
 use crate::reading::{Reading, read_file};
-use crate::status::{FileRole, Status, Unbuilt};
-use crate::words::{Asked, CommandLine, Task, command_line};
+use crate::status::{FileRole, Status};
+use crate::words::{Asked, CommandLine, Source, Task, command_line};
 use graph_loader::{DataFault, DataFile, DataKind, LoadFault, load};
 use graph_model::Graph;
 use gvdl_check::{CheckFault, Plan, check};
 use gvdl_parser::{ParseFault, ScriptFault, parse};
 use gvdl_tree::Script;
+use sample_data::{edges, nodes, script};
 use std::alloc::Global;
 use surge_outside::{List, NoMemory, Trouble};
 
@@ -116,7 +118,6 @@ fn plan_script(alloc: Global, script: &Script, graph: &Graph) -> Result<Plan, St
     match check(alloc, script, graph) {
         Ok(plan) => Ok(plan),
         Err(CheckFault::Fault(fault)) => Err(Status::Script(fault)),
-        Err(CheckFault::NotBuilt(number)) => Err(Status::NotBuilt(Unbuilt::Statement(number))),
         Err(CheckFault::NoMemory) => Err(Status::NoMemory),
     }
 }
@@ -207,18 +208,92 @@ fn fetch_script<F: NamedFiles>(alloc: Global, files: &mut F, name: &str) -> Resu
     }
 }
 
+// The job of the script in the file of this name.
+fn job_named<F: NamedFiles>(
+    alloc: Global,
+    files: &mut F,
+    name: &str,
+    task: Task,
+) -> Result<Job, Status>
+    ensures said { IsExpectedOf (F.state files.old).held (λ held. ExpectsOfFile (job_for held task) (fetched held FileRole.Script name.now)) result }
+    ensures fits { IfOk result (λ job. PlanFits job.graph job.plan) }
+    ensures task { IfOk result (λ job. task ≡ job.task) }
+    ensures stage { IfErr result IsStage }
+    ensures files { GoesOn (F.state files.old) (F.state files.new) }
+    ensures causes { IfErr result (λ s. RisesBefore (ReachesNamed (F.state files.old).held name.now) s (F.state files.old) (F.state files.new)) }
+{
+    match fetch_script(alloc, files, name) {
+        Ok(script) => job_for(alloc, files, task, script),
+        Err(status) => Err(status),
+    }
+}
+
+// The graph of the sample with this number.
+fn load_sample(alloc: Global, number: u64) -> Result<Graph, Status>
+    ensures said { IsSaid (sample_graph number) result }
+    ensures inner { IfErr result IsInner }
+{
+    match nodes(alloc) {
+        Ok(nodes) => match edges(alloc, number) {
+            Ok(edges) => load_graph(alloc, nodes.as_slice(), edges.as_slice()),
+            Err(NoMemory) => Err(Status::NoMemory),
+        },
+        Err(NoMemory) => Err(Status::NoMemory),
+    }
+}
+
+// The job of this script over the sample with this number.
+fn job_over_sample(alloc: Global, number: u64, task: Task, script: Script) -> Result<Job, Status>
+    requires { IsWritten script }
+    ensures said { IsSaid (job_sampled number task script) result }
+    ensures fits { IfOk result (λ job. PlanFits job.graph job.plan) }
+    ensures task { IfOk result (λ job. task ≡ job.task) }
+    ensures inner { IfErr result IsInner }
+{
+    match load_sample(alloc, number) {
+        Ok(graph) => job_over(alloc, task, script, graph),
+        Err(status) => Err(status),
+    }
+}
+
+// The script of the sample.
+fn sample_script(alloc: Global) -> Result<Script, Status>
+    ensures ok { IfOk result (IsTheScript script_text) }
+    ensures written { IfOk result IsWritten }
+    ensures err { IfErr result (StopsParse script_text) }
+    ensures inner { IfErr result IsInner }
+{
+    match script(alloc) {
+        Ok(text) => parse_script(alloc, text.as_slice()),
+        Err(NoMemory) => Err(Status::NoMemory),
+    }
+}
+
+// The job of the sample with this number. Nothing is asked of files.
+fn job_sampled(alloc: Global, number: u64, task: Task) -> Result<Job, Status>
+    ensures said { IsExpected (ExpectsOfText (job_sampled number task) script_text) result }
+    ensures fits { IfOk result (λ job. PlanFits job.graph job.plan) }
+    ensures task { IfOk result (λ job. task ≡ job.task) }
+    ensures inner { IfErr result IsInner }
+{
+    match sample_script(alloc) {
+        Ok(script) => job_over_sample(alloc, number, task, script),
+        Err(status) => Err(status),
+    }
+}
+
 // The job that is asked for.
 fn job_asked<F: NamedFiles>(alloc: Global, files: &mut F, asked: &Asked) -> Result<Job, Status>
-    ensures said { IsExpectedOf (F.state files.old).held (λ held. ExpectsAsked held (CommandLine.Asked asked.now)) result }
+    ensures said { IsExpectedOf (told_of asked.now.source (F.state files.old).held) (λ held. ExpectsAsked held (CommandLine.Asked asked.now)) result }
     ensures fits { IfOk result (λ job. PlanFits job.graph job.plan) }
     ensures task { IfOk result (λ job. asked.now.task ≡ job.task) }
     ensures stage { IfErr result IsStage }
-    ensures files { GoesOn (F.state files.old) (F.state files.new) }
+    ensures unread { NamesNoFile asked.now.source → files.new ≡ files.old }
     ensures causes { IfErr result (λ s. RisesBefore (ReachesAsked (F.state files.old).held asked.now) s (F.state files.old) (F.state files.new)) }
 {
-    match fetch_script(alloc, files, asked.script.as_str()) {
-        Ok(script) => job_for(alloc, files, asked.task, script),
-        Err(status) => Err(status),
+    match &asked.source {
+        Source::Script(name) => job_named(alloc, files, name.as_str(), asked.task),
+        Source::Sample(number) => job_sampled(alloc, *number, asked.task),
     }
 }
 
@@ -229,7 +304,6 @@ fn read_asked(alloc: Global, words: &[String]) -> Result<Asked, Status>
 {
     match command_line(alloc, words) {
         Ok(CommandLine::Asked(asked)) => Ok(asked),
-        Ok(CommandLine::NotBuilt) => Err(Status::NotBuilt(Unbuilt::Words)),
         Ok(CommandLine::NotOfForm) => Err(Status::Usage),
         Err(NoMemory) => Err(Status::NoMemory),
     }
@@ -241,7 +315,7 @@ pub(crate) fn prepare<F: NamedFiles>(
     files: &mut F,
     words: &[String],
 ) -> Result<Job, Status>
-    ensures said { IsExpectedOf (F.state files.old).held (λ held. Expects held (map string_bytes words.now)) result }
+    ensures said { IsExpectedOf (told (F.state files.old).held (map string_bytes words.now)) (λ held. Expects held (map string_bytes words.now)) result }
     ensures fits { IfOk result (λ job. PlanFits job.graph job.plan) }
     ensures task { IfOk result (λ job. AsksFor (command_line (map string_bytes words.now)) job.task) }
     ensures stop { IfErr result IsStop }

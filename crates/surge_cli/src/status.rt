@@ -2,7 +2,7 @@
 
 ghost use Rattle.std.specs.Prelude.{◌≡◌, IfOk, string_bytes};
 ghost use Rattle.std.specs.Cow.{cow_str_bytes};
-ghost use Rattle.surge_cli.specs.StatusText.{status_number, status_line, file_text, kind_text, fault_line, statement_line};
+ghost use Rattle.surge_cli.specs.StatusText.{status_number, status_line, file_text, kind_text, fault_line};
 
 use crate::script_line::script_line;
 use graph_loader::{DataFault, DataFile, DataKind};
@@ -17,16 +17,6 @@ pub enum FileRole {
     Script,
     Nodes,
     Edges,
-}
-
-/// What is not built yet.
-#[derive(Clone, Copy, Debug, PartialEq, Eq)]
-pub enum Unbuilt {
-    /// The words of the command line ask for a sample, for turns, or for the summary.
-    Words,
-    /// The statement of this number, from 1, which shows the work of a run or is a run with a split; the load is statement 1.
-    /// No statement before it has a fault.
-    Statement(u32),
 }
 
 /// How a run of the program ended.
@@ -48,8 +38,6 @@ pub enum Status {
     WriteFault,
     /// A request for memory was refused.
     NoMemory,
-    /// What is asked for is not built yet.
-    NotBuilt(Unbuilt),
 }
 
 fn file_name(file: DataFile) -> &'static str
@@ -91,13 +79,6 @@ fn fault_line(alloc: Global, fault: DataFault) -> Result<String, NoMemory>
     Ok(format!(in alloc; "surge: data: {file} record {row} column {column}: {kind}\n")?)
 }
 
-// The line of a statement that is not built.
-fn statement_line(alloc: Global, number: u32) -> Result<String, NoMemory>
-    ensures { IfOk result (λ line. string_bytes line ≡ statement_line number) }
-{
-    Ok(format!(in alloc; "surge: not built: statement {number}\n")?)
-}
-
 fn fixed(line: &'static str) -> Result<CowStr<'static, Global>, NoMemory>
     ensures { IfOk result (λ text. cow_str_bytes text ≡ line.entry.now) }
 {
@@ -118,7 +99,6 @@ impl Status {
             Status::ReadFault => 6,
             Status::WriteFault => 7,
             Status::NoMemory => 8,
-            Status::NotBuilt(_) => 9,
         }
     }
 
@@ -140,10 +120,6 @@ impl Status {
             Status::ReadFault => fixed("surge: read fault\n"),
             Status::WriteFault => fixed("surge: write fault\n"),
             Status::NoMemory => fixed("surge: out of memory\n"),
-            Status::NotBuilt(Unbuilt::Words) => fixed("surge: not built: words\n"),
-            Status::NotBuilt(Unbuilt::Statement(number)) => {
-                Ok(CowStr::Owned(statement_line(alloc, *number)?))
-            }
         }
     }
 }

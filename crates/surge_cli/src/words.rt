@@ -4,10 +4,11 @@ ghost use Rattle.std.specs.Prelude.{◌≡◌, map, option_map, string_bytes, If
 ghost use Rattle.std.specs.Char.{is_ascii_digit};
 ghost use Rattle.std.specs.List.{list_all};
 ghost use Rattle.clap.specs.Words.{app_of, first_of, found_of, rows_of};
-ghost use Rattle.surge_cli.specs.Words.{command, matched, number_of, file_of, source_of, mode_named, mode_of, turns_of, joined, request_from, request_of, asked_of, command_line};
+ghost use Rattle.surge_cli.specs.Words.{command, matched, number_of, file_of, source_of, mode_named, mode_of, turns_of, joined, request_from, request_of, task_of, asked_of, command_line};
 
 use clap::error::ErrorKind;
 use clap::{Arg, ArgMatches, Command};
+use result_tables::Form;
 use std::alloc::Global;
 use surge_outside::{NoMemory, Text};
 
@@ -43,8 +44,9 @@ pub(crate) struct Request {
 /// What is done of a script.
 #[derive(Clone, Copy, Debug, PartialEq, Eq)]
 pub(crate) enum Task {
-    /// Its runs are made, and each table is written.
-    Run,
+    /// Its runs are made, and their tables are written in this form. Where the order of turns is drawn, it is drawn from this
+    /// number on.
+    Run(Form, Option<u64>),
     /// It is checked, and its canonical text is written.
     Check,
 }
@@ -52,8 +54,7 @@ pub(crate) enum Task {
 /// A script, and what is done of it.
 #[derive(Debug, Drop)]
 pub(crate) struct Asked {
-    /// The name of the script's file, which is not empty.
-    pub(crate) script: Text,
+    pub(crate) source: Source,
     pub(crate) task: Task,
 }
 
@@ -62,8 +63,6 @@ pub(crate) struct Asked {
 pub(crate) enum CommandLine {
     /// They are not of the form.
     NotOfForm,
-    /// They ask for what is not built yet.
-    NotBuilt,
     /// They ask for a script.
     Asked(Asked),
 }
@@ -220,20 +219,29 @@ fn read_words(alloc: Global, words: &[String]) -> Result<Option<Request>, NoMemo
     }
 }
 
-// The script that a request asks for, and what is done of it, where requests of its kind are built.
-fn asked_of(request: Request) -> CommandLine
+// What is done in a mode.
+fn task_of(mode: Mode, turns: Option<u64>) -> Task
+    ensures { result ≡ task_of mode turns }
+{
+    match mode {
+        Mode::Run => Task::Run(Form::Tables, turns),
+        Mode::Summary => Task::Run(Form::Summary, turns),
+        Mode::Check => Task::Check,
+    }
+}
+
+// The script that a request asks for, and what is done of it.
+fn asked_of(request: Request) -> Asked
     ensures { result ≡ asked_of request }
 {
-    match (request.source, request.mode, request.turns) {
-        (Source::Script(script), Mode::Run, None) => CommandLine::Asked(Asked {
-            script,
-            task: Task::Run,
-        }),
-        (Source::Script(script), Mode::Check, None) => CommandLine::Asked(Asked {
-            script,
-            task: Task::Check,
-        }),
-        _ => CommandLine::NotBuilt,
+    let Request {
+        source,
+        mode,
+        turns,
+    } = request;
+    Asked {
+        source,
+        task: task_of(mode, turns),
     }
 }
 
@@ -243,7 +251,7 @@ pub(crate) fn command_line(alloc: Global, words: &[String]) -> Result<CommandLin
     ensures { IfOk result (λ line. line ≡ command_line (map string_bytes words.now)) }
 {
     match read_words(alloc, words) {
-        Ok(Some(request)) => Ok(asked_of(request)),
+        Ok(Some(request)) => Ok(CommandLine::Asked(asked_of(request))),
         Ok(None) => Ok(CommandLine::NotOfForm),
         Err(NoMemory) => Err(NoMemory),
     }

@@ -1,6 +1,6 @@
 //! Whole runs of the program that need ends in memory: calls that fail in the middle, pieces cut at any place, ends that
-//! want memory, files past their limits, and another updater. Runs that files and words alone can make are folders under
-//! `tests/runs`.
+//! want memory, files past their limits, files that are never asked, and other updaters. Runs
+//! that files and words alone can make are folders under `tests/runs`.
 //!
 //! It stands on top of every other crate, and nothing stands on it. What it shows is what no contract says alone: that the
 //! definitions mean what they are meant to, and that a run finds memory.
@@ -10,6 +10,7 @@ ghost use Rattle.std.specs.Prelude.{◌≡◌, ◌<◌, ◌≤◌};
 
 mod lacking;
 mod starter;
+mod unreadable;
 
 pub use lacking::{LackingFiles, LackingSink};
 pub use starter::Starter;
@@ -17,6 +18,7 @@ use std::alloc::{AllocError, Global};
 use std::sync::ledger::{Blank, Ledger};
 use surge_cli::{Status, surge};
 use surge_outside::{List, MemoryFiles, MemorySink, Steps, Text};
+pub use unreadable::UnreadableFiles;
 use vertex_lang::Updater;
 
 /// What the files in memory hold, where they are there: the script `s`, and the data files `n4.csv` and `e1.csv`.

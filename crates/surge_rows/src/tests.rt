@@ -3,7 +3,9 @@
 ghost use Rattle.std.specs.Prelude.{◌≡◌, ◌≤◌};
 
 mod faults;
+mod samples;
 mod sizes;
+mod turns;
 mod updaters;
 mod wants;
 

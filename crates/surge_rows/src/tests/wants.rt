@@ -28,7 +28,7 @@ fn counted<L: Ledger, F: Files, O: Sink, E: Sink>(
 }
 
 // The status of a run over these ends.
-fn status<F: Files, O: Sink, E: Sink>(
+pub(super) fn status<F: Files, O: Sink, E: Sink>(
     rt: &HostRuntime,
     words: &[&str],
     files: &mut F,
@@ -38,7 +38,7 @@ fn status<F: Files, O: Sink, E: Sink>(
     counted::<Brand, F, O, E>(rt, Blank::new(1), words, files, out, err)
 }
 
-fn sink(rt: &HostRuntime) -> MemorySink {
+pub(super) fn sink(rt: &HostRuntime) -> MemorySink {
     MemorySink::new(rt.alloc(), 4096, List::from_vec(Vec::new(rt.alloc())))
 }
 

@@ -1,6 +1,7 @@
 -- The line of a status changes it at most to want of memory.
 use Rattle.std.proofs.Common.{map, string_bytes}
 use Rattle.surge_cli.specs.Words.{command_line}
+use Rattle.surge_cli.specs.Expected.{told}
 use Rattle.surge_cli.specs.Reaches.{Reaches}
 use Rattle.surge_cli.specs.Causes.{counts}
 use Rattle.surge_cli.proofs.Endings.{reported_words, reported_means}
@@ -9,10 +10,10 @@ use Rattle.surge_cli.proofs.Deciding.{reported_agrees}
 use Rattle.surge_cli.proofs.running.surge.Goals as goal
 
 pub returns-clause-headline : goal.returns-clause-headline
-returns-clause-headline g c = reported_means g.U.Updater.answer (g.F.NamedFiles.state c.args.files.now).held (map string_bytes c.args.words.now) c.run-status.result c.report.result (g.O.Sink.written c.args.out.now) (g.O.Sink.written c.run-status.new.out) c.report.ensures.same c.run-status.ensures.headline
+returns-clause-headline g c = reported_means g.U.Updater.answer (told (g.F.NamedFiles.state c.args.files.now).held (map string_bytes c.args.words.now)) (map string_bytes c.args.words.now) c.run-status.result c.report.result (g.O.Sink.written c.args.out.now) (g.O.Sink.written c.run-status.new.out) (g.U.Counted.calls c.args.updater.now) (g.U.Counted.calls c.run-status.new.updater) c.report.ensures.same c.run-status.ensures.headline
 
 pub returns-clause-exact : goal.returns-clause-exact
-returns-clause-exact g c = reported_agrees g.U.Updater.answer (g.F.NamedFiles.state c.args.files.now).held (map string_bytes c.args.words.now) c.run-status.result c.report.result (g.O.Sink.written c.args.out.now) (g.O.Sink.written c.run-status.new.out) c.report.ensures.same c.run-status.ensures.headline
+returns-clause-exact g c = reported_agrees g.U.Updater.answer (told (g.F.NamedFiles.state c.args.files.now).held (map string_bytes c.args.words.now)) (map string_bytes c.args.words.now) c.run-status.result c.report.result (g.O.Sink.written c.args.out.now) (g.O.Sink.written c.run-status.new.out) (g.U.Counted.calls c.args.updater.now) (g.U.Counted.calls c.run-status.new.updater) c.report.ensures.same c.run-status.ensures.headline
 
 pub returns-clause-words : goal.returns-clause-words
 returns-clause-words g c = reported_words (command_line (map string_bytes c.args.words.now)) c.run-status.result c.report.result c.report.ensures.same c.run-status.ensures.words

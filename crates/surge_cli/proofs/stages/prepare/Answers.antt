@@ -6,6 +6,7 @@ use Rattle.surge_cli.specs.declared.words.CommandLine.TheVariants as line
 use Rattle.surge_cli.specs.declared.status.Status.{Status}
 use Rattle.surge_cli.specs.declared.job.Job.{Job}
 use Rattle.surge_cli.specs.Words.{command_line}
+use Rattle.surge_cli.specs.Expected.{told}
 use Rattle.surge_cli.specs.Headline.{AsksFor}
 use Rattle.surge_cli.specs.Reaches.{ReachesAsked, Reaches}
 use Rattle.surge_cli.specs.Causes.{OfWords}
@@ -13,7 +14,7 @@ use Rattle.surge_cli.specs.Stages.{IsStop, IsStage}
 use Rattle.surge_cli.proofs.GoingOn.{same_files}
 use Rattle.surge_cli.proofs.Expecting.{words_go_on, words_stop}
 use Rattle.surge_cli.proofs.Reaching.{words_rise, stage_rises}
-use Rattle.surge_cli.proofs.Endings.{asks_for, not_none, stage_words, stage_stops, words_stops, words_told}
+use Rattle.surge_cli.proofs.Endings.{asks_for, named_none, stage_words, stage_stops, words_stops, words_told}
 use Rattle.surge_cli.proofs.stages.prepare.Goals as goal
 
 of_stage : (r : Result Job Status) (words : List (List ℕ)) (asked : Asked) → command_line words ≡ line.Asked asked → IfErr r IsStage → IfErr r (OfWords (command_line words))
@@ -41,7 +42,7 @@ pub returns-in-Ok-clause-words : goal.returns-in-Ok-clause-words
 returns-in-Ok-clause-words g c = of_stage c.job_asked.result (map string_bytes c.args.words.now) c.in-Ok.asked c.in-Ok.ensures.ok c.job_asked.ensures.stage
 
 pub returns-in-Ok-clause-unread : goal.returns-in-Ok-clause-unread
-returns-in-Ok-clause-unread g c = λ none. not_none (map string_bytes c.args.words.now) c.in-Ok.asked c.in-Ok.ensures.ok none
+returns-in-Ok-clause-unread g c = λ none. c.job_asked.ensures.unread (named_none (map string_bytes c.args.words.now) c.in-Ok.asked c.in-Ok.ensures.ok none)
 
 pub returns-in-Ok-clause-causes : goal.returns-in-Ok-clause-causes
 returns-in-Ok-clause-causes g c =
@@ -50,7 +51,7 @@ returns-in-Ok-clause-causes g c =
     stage_rises (ReachesAsked old.held c.in-Ok.asked) (Reaches old.held words) c.job_asked.result old old (g.F.NamedFiles.state c.job_asked.new.files) (λ r n h. (c.in-Ok.asked, c.in-Ok.ensures.ok, h)) (same_files old) c.job_asked.ensures.causes
 
 pub returns-in-Err-clause-said : goal.returns-in-Err-clause-said
-returns-in-Err-clause-said g c = words_stop (g.F.NamedFiles.state c.args.files.now).held (map string_bytes c.args.words.now) c.in-Err.status c.in-Err.ensures.err
+returns-in-Err-clause-said g c = words_stop (told (g.F.NamedFiles.state c.args.files.now).held (map string_bytes c.args.words.now)) (map string_bytes c.args.words.now) c.in-Err.status c.in-Err.ensures.err
 
 pub returns-in-Err-clause-stop : goal.returns-in-Err-clause-stop
 returns-in-Err-clause-stop g c = words_stops (map string_bytes c.args.words.now) c.in-Err.status c.in-Err.ensures.err
