@@ -1,8 +1,9 @@
 -- The times that are due after an evaluation.
-use Rattle.std.specs.Prelude.{◌≡◌, ◌≢◌, ◌⊎◌, ◌&&◌, not, Bool, false, IsTrue, List, [], ◌∷◌, if◌then◌else◌, Option, Some, None}
+use Rattle.std.specs.Prelude.{◌≡◌, ◌≢◌, ◌⊎◌, ◌&&◌, not, Bool, false, List, [], ◌∷◌, if◌then◌else◌, Option, Some, None}
 use Rattle.std.specs.declared.cmp.Ordering.{Ordering}
 use Rattle.std.specs.Ordering.{is_ne}
 use Rattle.flow_core.specs.Runs.{Member}
+use Rattle.reduce_theory.specs.Kept.{IsCovered as covers}
 
 -- an evaluation at the last of some times covers that of a mark at t: t is at or above that time, and at or below its least
 -- upper bound with the mark. So both have one bound with the mark, which was named due there.
@@ -17,7 +18,7 @@ later_of leq lub tcmp t last k (x ∷ xs) = if is_ne (tcmp (lub t x) t) && not (
 
 -- some evaluation of the key covers that of a mark at t
 abbrev pub IsCovered : {K T : Type 0} → (T → T → Bool) → (T → T → T) → List (K × T) → T → K → T → Type 0
-IsCovered {K} {T} leq lub points t k x = (a : T) × Member (k, a) points × IsTrue (leq a t) × IsTrue (leq t (lub a x))
+IsCovered leq lub points t k x = covers leq lub (λ a. Member (k, a) points) t x
 
 -- the pairs are those of each of some keys with the least upper bounds of t and the key's marks, but t itself and what is
 -- covered

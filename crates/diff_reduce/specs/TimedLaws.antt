@@ -13,7 +13,7 @@ use Rattle.weighted.specs.Alike.{Alike, Alike-is, Alike-trans, Alike-mapped, wor
 use Rattle.trace_store.specs.Traces.{IsTimeOf, at_time, later, trace_cmp, values_of}
 use Rattle.trace_store.specs.Traces.{accumulated as held_at}
 use Rattle.trace_store.specs.TraceLaws.{Alike-accumulated, accumulated-append, accumulated-at_time}
-use Rattle.flow_core.specs.Runs.{Step, accumulated, fed_of, made_of}
+use Rattle.flow_core.specs.Runs.{Step, accumulated, fed_of}
 use Rattle.reduce_theory.specs.Evaluated.{key_part, key_steps, read_at}
 use Rattle.reduce_theory.specs.KeyLaws.{read_leq}
 use Rattle.reduce_theory.specs.MarkLaws.{IsOldMark, empty_or}

@@ -1,4 +1,5 @@
-//! Operators driven at random times, in any order that they allow, against their functions computed anew from all that was fed.
+//! Operators driven at random times, in any order that they allow, against their functions computed anew from all that was
+//! fed.
 //!
 //! It stands on the operators, and nothing stands on it. A run draws times, batches and seals, steps an operator where its
 //! contract allows that and where it is due (`drive`, `random`), and keeps what was fed and made (`history`). It does so at

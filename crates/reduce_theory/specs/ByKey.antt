@@ -175,7 +175,7 @@ module _ {K : Type 0} (kcmp : K → K → Ordering) (same : (x y : K) → kcmp x
 
 -- ---- the steps of one key
 
-pick : {K A : Type 0} (kcmp : K → K → Ordering) (k : K) (b : Bool) (es : List ((K × A) × ℕ)) → (if b then key_part kcmp k es else []) ≡ key_part kcmp k (if b then es else [])
+pub pick : {K A : Type 0} (kcmp : K → K → Ordering) (k : K) (b : Bool) (es : List ((K × A) × ℕ)) → (if b then key_part kcmp k es else []) ≡ key_part kcmp k (if b then es else [])
 pick kcmp k true es = refl
 pick kcmp k false es = refl
 

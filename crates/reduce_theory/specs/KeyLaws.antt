@@ -2,7 +2,7 @@
 use Rattle.std.specs.Prelude.{◌≡◌, ◌≢◌, ℕ, ◌+◌, ◌*◌, ◌⊎◌, Bool, true, false, IsTrue, List, [], ◌∷◌, ◌++◌, if◌then◌else◌, refl}
 use Rattle.std.specs.declared.cmp.Ordering.{Ordering}
 use Rattle.std.specs.declared.cmp.Ordering.TheVariants.{Equal}
-use Rattle.std.proofs.Common.{arith, ap, sym, ◌∙◌, inl, inr, append_assoc, append-nil, zero, suc}
+use Rattle.std.proofs.Common.{arith, ap, sym, ◌∙◌, inl, inr, append-nil, zero, suc}
 use Rattle.lattice_time.specs.Lattice.{IsLattice}
 use Rattle.weighted.specs.Words.{sum_at, word}
 use Rattle.weighted.specs.WordLaws.{total, total-agree, sum_at-append}

@@ -2,11 +2,11 @@
 use Rattle.std.specs.Prelude.{◌≡◌, ◌≢◌, ℕ, ◌⊎◌, Bool, false, IsTrue, List, [], ◌∷◌, ◌++◌, refl}
 use Rattle.std.specs.declared.cmp.Ordering.{Ordering}
 use Rattle.std.specs.declared.cmp.Ordering.TheVariants.{Equal}
-use Rattle.std.proofs.Common.{ap, sym, subst, inl, inr, append_assoc}
+use Rattle.std.proofs.Common.{sym, subst, inl, inr, append_assoc}
 use Rattle.lattice_time.specs.Lattice.{IsLattice}
 use Rattle.weighted.specs.Alike.{Alike, Alike-is}
 use Rattle.flow_core.specs.Runs.{Step, Every, Member, NoneAbove, fed_to, made_to, times_of}
-use Rattle.flow_core.specs.Lists.{Every-append, Every-map, Member-front, Member-back, Every-member}
+use Rattle.flow_core.specs.Lists.{Every-append, Every-map, Member-back, Every-member}
 use Rattle.flow_core.specs.RunLaws.{fed_to_more, made_to_more, time_before, time_after}
 use Rattle.reduce_theory.specs.Evaluated.{old_marks, new_marks, marks}
 use Rattle.reduce_theory.specs.Keys.{IsPoint, KeyRun}

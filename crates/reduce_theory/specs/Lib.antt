@@ -6,3 +6,6 @@ pub mod KeyLaws
 pub mod KeySteps
 pub mod ByKey
 pub mod Counts
+pub mod Kept
+pub mod KeptLaws
+pub mod KeptSteps

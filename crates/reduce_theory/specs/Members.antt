@@ -1,8 +1,8 @@
 -- Laws of lists as sets.
-use Rattle.std.specs.Prelude.{◌≡◌, ◌⊎◌, ◌||◌, Bool, true, false, List, [], ◌∷◌, ◌++◌, map, filter, if◌then◌else◌, refl}
+use Rattle.std.specs.Prelude.{◌≡◌, ◌⊎◌, ◌||◌, Bool, true, false, List, [], ◌∷◌, map, filter, if◌then◌else◌, refl}
 use Rattle.std.specs.List.{list_any}
 use Rattle.std.proofs.Common.{sym, subst, ◌∙◌, inl, inr}
-use Rattle.flow_core.specs.Runs.{Every, Member}
+use Rattle.flow_core.specs.Runs.{Member}
 
 pub Member-map : {A B : Type 0} (f : A → B) (x : A) (xs : List A) → Member x xs → Member (f x) (map f xs)
 Member-map f x [] m = absurd m

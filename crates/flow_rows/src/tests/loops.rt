@@ -149,5 +149,6 @@ fn loops_in_loops_at_random_times(rt: HostRuntime) -> Result<(), Fail> {
         assert!(rt; nested_steps::<Version>(alloc, seed)? > Some(1));
         assert!(rt; nested_steps::<Pair<Version, Position>>(alloc, seed)? > Some(1));
     }
+    assert!(rt; nested_steps::<Pair<Pair<Version, Position>, Round>>(alloc, 0)? > Some(1));
     Ok(())
 }

@@ -7,7 +7,7 @@ use super::joins::{PairByPair, Sides, TestJoin, Unequal};
 use crate::{Draws, Grid, Reference, run};
 use diff_join::Join;
 use diff_reduce::{KeyLogic, Reduce};
-use flow_core::{Chain, NoCalls};
+use flow_core::{Chain, NoCalls, Quiet};
 use lattice_time::{Pair, Position, Round, Version};
 use std::alloc::Global;
 use std::test::Fail;
@@ -129,6 +129,27 @@ fn steps<T: Grid>(alloc: Global) -> Result<Option<usize>, NoMemory> {
     Ok(Some(steps))
 }
 
+// The same of reduces that are made quiet, which evaluate as many keys as those that are not.
+fn steps_quietly<T: Grid>(alloc: Global) -> Result<Option<usize>, NoMemory> {
+    let mut steps = 0usize;
+    for seed in 0..30 {
+        let mut reduce: TestReduce<T> = Reduce::new(alloc, LeastAndCount);
+        let again: TestReduce<T> = Reduce::new(alloc, LeastAndCount);
+        let mut quiet = Quiet::new::<T, NoCalls>(again);
+        let Some(expected) = run(alloc, &mut reduce, &KeyByKey, seed, &mut NoCalls)? else {
+            return Ok(None);
+        };
+        let Some(more) = run(alloc, &mut quiet, &KeyByKey, seed, &mut NoCalls)? else {
+            return Ok(None);
+        };
+        if more != expected || quiet.inner().evaluations() != reduce.evaluations() {
+            return Ok(None);
+        }
+        steps = steps.wrapping_add(more);
+    }
+    Ok(Some(steps))
+}
+
 // The same of reduces behind joins.
 fn steps_of_both<T: Grid>(alloc: Global) -> Result<Option<usize>, NoMemory> {
     let mut steps = 0usize;
@@ -150,6 +171,15 @@ fn reduces_at_random_times(rt: HostRuntime) -> Result<(), Fail> {
     assert!(rt; steps::<Version>(alloc)? > Some(30));
     assert!(rt; steps::<Pair<Version, Position>>(alloc)? > Some(100));
     assert!(rt; steps::<Pair<Pair<Version, Position>, Round>>(alloc)? > Some(100));
+    Ok(())
+}
+
+#[test]
+fn quiet_reduces_at_random_times(rt: HostRuntime) -> Result<(), Fail> {
+    let alloc = rt.alloc();
+    assert!(rt; steps_quietly::<Version>(alloc)? > Some(30));
+    assert!(rt; steps_quietly::<Pair<Version, Position>>(alloc)? > Some(100));
+    assert!(rt; steps_quietly::<Pair<Pair<Version, Position>, Round>>(alloc)? > Some(100));
     Ok(())
 }
 

@@ -1,5 +1,5 @@
 -- The key's points, and the times of its entries.
-use Rattle.std.proofs.Common.{◌∙◌, ◌++◌, map, ap, sym, subst}
+use Rattle.std.proofs.Common.{◌∙◌, ◌++◌, map, ap, subst}
 use Rattle.std.specs.Prelude.{filter}
 use Rattle.std.specs.List.{Contains}
 use Rattle.std.specs.Ordering.{is_eq}
