@@ -40,6 +40,6 @@ awk -v surge="$work/surge.txt" -v plain="$work/plain.txt" -v language="$language
     BEGIN {
         least(surge, ours)
         least(plain, theirs)
-        printf "%-22s %12s %12s %8s\n", "call", "surge, us", language ", us", "ratio"
-        for (i = 1; i <= count; i++) printf "%-22s %12d %12d %8.2f\n", order[i], ours[order[i]], theirs[order[i]], ours[order[i]] / theirs[order[i]]
+        printf "%-24s %12s %12s %8s\n", "call", "surge, us", language ", us", "ratio"
+        for (i = 1; i <= count; i++) printf "%-24s %12d %12d %8.2f\n", order[i], ours[order[i]], theirs[order[i]], ours[order[i]] / theirs[order[i]]
     }'

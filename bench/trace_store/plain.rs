@@ -4,7 +4,17 @@
 mod consolidate;
 
 use consolidate::consolidate;
-use std::time::Instant;
+
+/// Nanoseconds of the processor that this thread took so far.
+fn processor_time() -> u128 {
+    let text = std::fs::read_to_string("/proc/thread-self/schedstat").unwrap();
+    text.split(' ').next().unwrap().parse().unwrap()
+}
+
+/// Microseconds of the processor since a moment.
+fn since(start: u128) -> u128 {
+    (processor_time() - start) / 1000
+}
 
 type Time = (u32, u32);
 type Entry = (((u32, u32), Time), u64);
@@ -101,11 +111,18 @@ fn accumulate(trace: &[Vec<Entry>], key: u32, t: Time, into: &mut Vec<(u32, u64)
     consolidate(into);
 }
 
-fn seal(trace: &mut Vec<Vec<Entry>>, f: Time) {
+/// All layers in one, merged from the newest to the oldest.
+fn merge_layers(trace: &[Vec<Entry>]) -> Vec<Entry> {
     let mut merged = Vec::new();
-    while let Some(last) = trace.pop() {
-        merged = merge(&last, &merged);
+    for layer in trace.iter().rev() {
+        merged = merge(layer, &merged);
     }
+    merged
+}
+
+fn seal(trace: &mut Vec<Vec<Entry>>, f: Time) {
+    let mut merged = merge_layers(trace);
+    trace.clear();
     for entry in &mut merged {
         entry.0.1 = (entry.0.1.0.max(f.0), entry.0.1.1.max(f.1));
     }
@@ -160,49 +177,66 @@ fn walk(trace: &[Vec<Entry>]) -> u64 {
     count
 }
 
+/// Microseconds of one merge of the two halves of all entries, taken in turn.
+fn merge_of_halves(trace: &[Vec<Entry>]) -> u128 {
+    let mut all: Vec<Entry> = trace.concat();
+    all.sort_unstable();
+    let left: Vec<Entry> = all.iter().copied().step_by(2).collect();
+    let right: Vec<Entry> = all.iter().copied().skip(1).step_by(2).collect();
+    let start = processor_time();
+    let whole = merge(&left, &right);
+    let merged = since(start);
+    assert!(whole.len() <= all.len() && whole.len() >= left.len());
+    merged
+}
+
 fn main() {
-    let start = Instant::now();
+    let start = processor_time();
     let mut trace = Vec::new();
     for (seed, position) in [(1, 1), (2, 2), (3, 3), (4, 4)] {
         insert(&mut trace, &batch(seed), (position, 1));
     }
-    let inserted = start.elapsed().as_micros();
-    let start = Instant::now();
+    let inserted = since(start);
+    let start = processor_time();
     let rising = read(&trace, 1);
-    let in_order = start.elapsed().as_micros();
-    let start = Instant::now();
+    let in_order = since(start);
+    let start = processor_time();
     let scattered = read(&trace, 617_411);
-    let anywhere = start.elapsed().as_micros();
-    let start = Instant::now();
+    let anywhere = since(start);
+    let first_merge = merge_of_halves(&trace);
+    let start = processor_time();
     seal(&mut trace, (3, 1));
-    let sealed = start.elapsed().as_micros();
+    let sealed = since(start);
     let after = read(&trace, 1);
-    let start = Instant::now();
-    for seed in 0..1_000u32 {
+    let start = processor_time();
+    for seed in 0..250u32 {
         insert(&mut trace, &small(u64::from(seed)), (5, seed));
     }
-    let small = start.elapsed().as_micros();
-    let start = Instant::now();
+    let first = since(start);
+    for seed in 250..1_000u32 {
+        insert(&mut trace, &small(u64::from(seed)), (5, seed));
+    }
+    let small = since(start);
+    let start = processor_time();
     let walked = walk(&trace);
-    let walk_time = start.elapsed().as_micros();
-    let start = Instant::now();
-    let left: Vec<Entry> = trace[0].iter().copied().step_by(2).collect();
-    let right: Vec<Entry> = trace[0].iter().copied().skip(1).step_by(2).collect();
-    let halves = start.elapsed().as_micros();
-    let start = Instant::now();
-    let whole = merge(&left, &right);
-    let merged = start.elapsed().as_micros();
-    assert!(whole.len() == trace[0].len() && halves < u128::MAX);
-    let start = Instant::now();
+    let walk_time = since(start);
+    let start = processor_time();
+    let all = merge_layers(&trace);
+    let second_merge = since(start);
+    assert!(all.len() <= trace.iter().map(Vec::len).sum());
+    drop(all);
+    let start = processor_time();
     seal(&mut trace, (6, 1));
-    let again = start.elapsed().as_micros();
+    let again = since(start);
     println!("values {rising} {scattered} {after} {walked} {}", trace[0].len());
     println!("insert {inserted}");
     println!("accumulate {in_order}");
     println!("accumulate_anywhere {anywhere}");
     println!("seal {sealed}");
+    println!("seal/merge {first_merge}");
+    println!("first_250_inserts {first}");
     println!("thousand_inserts {small}");
     println!("walk {walk_time}");
     println!("seal_after_inserts {again}");
-    eprintln!("merge_of_halves {merged}");
+    println!("seal_after_inserts/merge {second_merge}");
 }
