@@ -4,3 +4,4 @@ mod graphs;
 mod hostile_files;
 mod matrices;
 mod predicates;
+mod two_ways;

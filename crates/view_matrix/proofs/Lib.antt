@@ -5,3 +5,7 @@ pub mod Bits
 pub mod Columns
 pub mod Filled
 pub mod MatrixBits
+pub mod BoundLaws
+pub mod Conjunctions
+pub mod Scans
+pub mod Flags

@@ -54,6 +54,9 @@ module _ (m : MatrixData) (v : ℕ) (column : List Bool) (is : column ≡ column
   pub edges_are : map edge (filter (λ (e : ℕ). at m.live e && at column e) (range_with_len 0 (length m.live))) ≡ edges_in m v
   edges_are = ap (λ (p : ℕ → Bool). map edge (filter p (range_with_len 0 (length m.live)))) here ∙ sym (kept_edges (λ (e : ℕ). bit_of m e v) (range_with_len 0 (length m.live)))
 
+  pub flags_are : map (λ (e : ℕ). at m.live e && at column e) (range_with_len 0 (length m.live)) ≡ map (λ (e : ℕ). bit_of m e v) (range_with_len 0 (length m.live))
+  flags_are = ap (λ (p : ℕ → Bool). map p (range_with_len 0 (length m.live))) here
+
   -- a list of edges, each with its bit in the view
   signed_edges : (p : ℕ → Bool) → ((e : ℕ) → p e ≡ true → at column e ≡ bit_of m e v)
       → map (in_column column) (filter p (range_with_len 0 (length m.live))) ≡ map (in_view m v) (filter (λ (e : EdgeNo). p e.0) (all_edges m))

@@ -4,5 +4,6 @@ pub mod ApartLaws
 pub mod Laws
 pub mod Columns
 pub mod Packed
+pub mod Bounds
 pub mod SetBitsInside
 pub mod MatrixInside

@@ -1,15 +1,16 @@
 //! A column of bits, one for each edge.
 
-ghost use Rattle.std.specs.Prelude.{◌≡◌, ◌<◌, ◌≤◌, false, length, replicate, slice_set, IfOk};
-ghost use Rattle.view_matrix.specs.Columns.{at, AreWords};
+ghost use Rattle.std.specs.Prelude.{◌≡◌, ◌<◌, ◌≤◌, ◌+◌, ◌/◌, ℕ, false, length, map, replicate, slice_set, IfOk};
+ghost use Rattle.std.specs.List.{range_with_len};
+ghost use Rattle.view_matrix.specs.Columns.{at, bit_in, AreWords};
 
 use crate::word::{is_set, with_bit};
 use std::alloc::Global;
 use std::marker::Model;
 use surge_outside::NoMemory;
 
-/// A bit for each edge, at most 4,000,000. The bit of edge e is bit e % 64 of word e / 64, and behind the last edge no bit
-/// is set.
+/// A bit for each edge, at most 4,000,000. The bit of edge e is bit e % 64 of word e / 64, and behind the last edge no
+/// bit is set.
 #[derive(Debug, Drop)]
 pub(crate) struct Column {
     words: Vec<u64>,
@@ -36,6 +37,16 @@ impl Column {
     {
         let words = vec![in alloc; 0u64; (len as usize).div_ceil(64)]?;
         Ok(Column { words, len })
+    }
+
+    /// The column of so many bits that lie in these words. Behind them no bit is set.
+    pub(crate) fn of_words(words: Vec<u64>, len: u32) -> Column
+        requires few { len ≤ 4_000_000 }
+        requires count { length words.items ≡ (len + 63) / 64 }
+        requires behind { (e : ℕ) → len ≤ e → bit_in words.items e ≡ false }
+        ensures { result ≡ map (bit_in words.items) (range_with_len 0 len) }
+    {
+        Column { words, len }
     }
 
     /// How many bits there are.

@@ -1,10 +1,12 @@
 //! The matrix.
 
-ghost use Rattle.std.specs.Prelude.{◌≡◌, ◌<◌, ◌≤◌, ◌+◌, length, All, IfOk, OnOk, OnErr};
+ghost use Rattle.std.specs.List.{range_with_len};
+ghost use Rattle.std.specs.Prelude.{◌≡◌, ◌<◌, ◌≤◌, ◌+◌, length, map, All, IfOk, OnOk, OnErr};
 ghost use Rattle.view_matrix.specs.Matrices.{bit_of, live_of, rule_bit_of, column_edges, edges_in, size_of, distance_of, differences_of, in_exactly_one, place_of, IsView, IsColumn, matrix_of, with_views, with_changes};
 
 use crate::column::Column;
 use crate::counted::{count_apart, count_both};
+use crate::flagged::flags_both;
 use crate::listed::{list_apart, list_both, list_new};
 use crate::rules::{column_of, rule_columns};
 use edge_predicates::ViewRule;
@@ -13,8 +15,9 @@ use std::alloc::Global;
 use std::marker::Model;
 use surge_outside::{List, NoMemory};
 
-/// Which edges of a graph stand in which views, at most 4,000,000 edges and 1,024 views: an edge stands in a view where it is
-/// live and the rule of the view holds of it. It takes one bit for each edge and view, and one more for each edge.
+/// Which edges of a graph stand in which views, at most 4,000,000 edges and 1,024 views: an edge stands in a view where
+/// it is live and the rule of the view holds of it. It takes one bit for each edge and view, and one more for each
+/// edge.
 #[derive(Debug, Drop)]
 pub struct Matrix {
     alloc: Global,
@@ -35,8 +38,8 @@ impl Model for Matrix {
 }
 
 impl Matrix {
-    /// The matrix of these views over a graph, in declared order, with one truth value for each edge that says whether it
-    /// is live. There are at most 1,024 views. Each predicate is evaluated once for each edge. The one error is want of
+    /// The matrix of these views over a graph, in declared order, with one truth value for each edge that says whether
+    /// it is live. There are at most 1,024 views. Each rule is told once for each edge. The one error is want of
     /// memory.
     pub fn build(
         alloc: Global,
@@ -58,8 +61,8 @@ impl Matrix {
         })
     }
 
-    /// Adds these views over the same graph behind those that are there, at most 1,024 in all. Each predicate of theirs is
-    /// evaluated once for each edge. The one error is want of memory, and it leaves the matrix as it was.
+    /// Adds these views over the same graph behind those that are there, at most 1,024 in all. Each rule of theirs is
+    /// told once for each edge. The one error is want of memory, and it leaves the matrix as it was.
     pub fn add_views(&mut self, graph: &Graph, views: &[ViewRule]) -> Result<(), NoMemory>
         requires graph { length graph.now.ends ≡ length self.old.live }
         requires few { length self.old.columns + length views.now ≤ 1_024 }
@@ -124,8 +127,8 @@ impl Matrix {
         count_both(&self.live, &self.columns[view.0 as usize])
     }
 
-    /// In how many edges a view differs from the view before, or from the empty column where there is none, by one pass over
-    /// their words: so many edges stand in exactly one of the two.
+    /// In how many edges a view differs from the view before, or from the empty column where there is none, by one pass
+    /// over their words: so many edges stand in exactly one of the two.
     pub fn distance(&self, before: Option<ViewNo>, view: ViewNo) -> u64
         requires before { IsColumn self.now before }
         requires view { IsView self.now view }
@@ -140,7 +143,17 @@ impl Matrix {
         }
     }
 
-    /// The edges that stand in a view, in the order of the file, by one pass over its words. The one error is want of memory.
+    /// Of each edge whether it stands in a view, in the order of the file, by one pass over the words. The one error is
+    /// want of memory.
+    pub fn flags(&self, alloc: Global, view: ViewNo) -> Result<Vec<bool>, NoMemory>
+        requires { IsView self.now view }
+        ensures { IfOk result (λ flags. flags.items ≡ map (λ e. bit_of self.now e view.0) (range_with_len 0 (length self.now.live))) }
+    {
+        flags_both(alloc, &self.live, &self.columns[view.0 as usize])
+    }
+
+    /// The edges that stand in a view, in the order of the file, by one pass over its words. The one error is want of
+    /// memory.
     pub fn edges(&self, alloc: Global, view: ViewNo) -> Result<List<EdgeNo>, NoMemory>
         requires { IsView self.now view }
         ensures edges { IfOk result (λ edges. edges ≡ edges_in self.now view.0) }
@@ -149,8 +162,9 @@ impl Matrix {
         list_both(alloc, &self.live, &self.columns[view.0 as usize])
     }
 
-    /// The edges in which a view differs from the view before, or from the empty column where there is none, in the order of
-    /// the file, each with whether it stands in the view. It takes one pass over their words. The one error is want of memory.
+    /// The edges in which a view differs from the view before, or from the empty column where there is none, in the
+    /// order of the file, each with whether it stands in the view. It takes one pass over their words. The one error is
+    /// want of memory.
     pub fn differences(
         &self,
         alloc: Global,

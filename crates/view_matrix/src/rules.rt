@@ -4,6 +4,8 @@ ghost use Rattle.std.specs.Prelude.{◌≡◌, ◌≤◌, length, IfOk};
 ghost use Rattle.view_matrix.specs.Matrices.{rule_column, rule_columns};
 
 use crate::column::Column;
+use crate::conjunction::bounds_of_rule;
+use crate::scan::meeting_column;
 use edge_predicates::{ViewRule, rule_holds};
 use graph_model::{EdgeNo, Graph};
 use std::alloc::Global;
@@ -23,8 +25,8 @@ pub(crate) fn column_of(alloc: Global, bits: &[bool]) -> Result<Column, NoMemory
     Ok(column)
 }
 
-/// The column of a rule, which is evaluated once for each edge.
-fn rule_column(alloc: Global, graph: &Graph, rule: &ViewRule) -> Result<Column, NoMemory>
+// The column of any rule, which is evaluated once for each edge.
+fn evaluated_column(alloc: Global, graph: &Graph, rule: &ViewRule) -> Result<Column, NoMemory>
     ensures { IfOk result (λ column. column ≡ rule_column graph.now rule.now) }
 {
     let mut column = Column::new(alloc, graph.edge_count())?;
@@ -34,6 +36,17 @@ fn rule_column(alloc: Global, graph: &Graph, rule: &ViewRule) -> Result<Column, 
         }
     }
     Ok(column)
+}
+
+/// The column of a rule. A window, and each other conjunction of comparisons of columns of the edges with numbers, is
+/// told from the columns alone.
+fn rule_column(alloc: Global, graph: &Graph, rule: &ViewRule) -> Result<Column, NoMemory>
+    ensures { IfOk result (λ column. column ≡ rule_column graph.now rule.now) }
+{
+    match bounds_of_rule(alloc, graph.edge_columns().len(), rule)? {
+        Some(all) => meeting_column(alloc, graph, all.as_slice()),
+        None => evaluated_column(alloc, graph, rule),
+    }
 }
 
 /// The columns of these rules.

@@ -1,6 +1,6 @@
 //! A word of a column.
 
-ghost use Rattle.std.specs.Prelude.{◌≡◌, ◌<◌, ◌==◌, ℕ, if◌then◌else◌};
+ghost use Rattle.std.specs.Prelude.{◌≡◌, ◌<◌, ◌≤◌, ◌==◌, ◌&&◌, ◌||◌, ℕ, nat_lt, if◌then◌else◌};
 ghost use Rattle.view_matrix.specs.Columns.{is_set};
 
 /// Whether a bit of a word is set.
@@ -18,4 +18,21 @@ pub(crate) fn with_bit(word: u64, place: u32, bit: bool) -> u64
 {
     let mask = 1u64 << place;
     if bit { word | mask } else { word & !mask }
+}
+
+/// The word with a bit more at a place, where the bit is set.
+pub(crate) fn more_bit(word: u64, place: u32, bit: bool) -> u64
+    requires { place < 64 }
+    ensures { (i : ℕ) → is_set result i ≡ (is_set word i || (bit && i == place)) }
+{
+    word | (u64::from(bit) << place)
+}
+
+/// The word whose so many lowest bits are set.
+pub(crate) fn lowest_bits(count: u32) -> u64
+    requires some { 1 ≤ count }
+    requires few { count ≤ 64 }
+    ensures { (i : ℕ) → is_set result i ≡ nat_lt i count }
+{
+    u64::MAX >> (64 - count)
 }

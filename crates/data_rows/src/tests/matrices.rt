@@ -49,7 +49,7 @@ fn four_views(alloc: Global) -> Result<Vec<ViewRule>, AllocError>
     Ok(views)
 }
 
-fn all_live(alloc: Global, graph: &Graph) -> Result<List<bool>, NoMemory>
+pub(crate) fn all_live(alloc: Global, graph: &Graph) -> Result<List<bool>, NoMemory>
     ensures { IfOk result (λ live. length live ≡ length graph.now.ends) }
 {
     let live = vec![in alloc; true; graph.edge_count() as usize]?;
@@ -59,7 +59,7 @@ fn all_live(alloc: Global, graph: &Graph) -> Result<List<bool>, NoMemory>
 // ---- what a matrix answers, as text
 
 // In how many edges two views differ, the first of which may be none.
-fn distance(matrix: &Matrix, before: Option<u32>, view: u32) -> u64 {
+pub(crate) fn distance(matrix: &Matrix, before: Option<u32>, view: u32) -> u64 {
     if view >= matrix.views() {
         return 99;
     }

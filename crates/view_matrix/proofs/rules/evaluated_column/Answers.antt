@@ -4,8 +4,8 @@ use Rattle.std.proofs.lemmas.List.FromFn.{get_or-map-range_with_len, length-map-
 use Rattle.edge_predicates.specs.Truth.{rule_truth}
 use Rattle.view_matrix.specs.Matrices.{rule_column}
 use Rattle.view_matrix.proofs.Filled.{filled_none, filled_all, filled_set, filled_not, length-filled}
-use Rattle.view_matrix.proofs.rules.rule_column.Goals as goal
-use Rattle.view_matrix.proofs.rules.rule_column.Goals.{then-rule_holds, else-rule_holds}
+use Rattle.view_matrix.proofs.rules.evaluated_column.Goals as goal
+use Rattle.view_matrix.proofs.rules.evaluated_column.Goals.{then-rule_holds, else-rule_holds}
 
 pub loop-edge-init : goal.loop-edge-init
 loop-edge-init c =

@@ -1,7 +1,7 @@
 use Rattle.std.proofs.Common.{◌≡◌, length}
 use Rattle.view_matrix.specs.Matrices.{rule_column}
 use Rattle.view_matrix.proofs.Filled.{filled}
-use Rattle.view_matrix.proofs.rules.rule_column.Given as goal
+use Rattle.view_matrix.proofs.rules.evaluated_column.Given as goal
 
 abbrev pub invariant-loop-edge : goal.invariant-loop-edge
 invariant-loop-edge l = record {
