@@ -2,10 +2,8 @@
 use Rattle.std.proofs.Common.{◌≡◌, ◌∙◌, ◌<◌, ◌^◌, ◌+◌, ◌∷◌, [], sym, ap, subst, refl, ℕ, Bool, true, false, List, None, length, get_or, map, arith, inl, inr}
 use Rattle.std.specs.Prelude.{All, Contains, replicate}
 use Rattle.std.proofs.lemmas.List.{get_or-replicate}
-use Rattle.std.specs.List.{range_with_len}
 use Rattle.std.proofs.lemmas.List.Concat.{flat_map-cons}
 use Rattle.std.proofs.lemmas.List.Elements.{All-nil, All-contains, Contains-append_left, Contains-append_right}
-use Rattle.std.proofs.lemmas.List.Sorted.{All-permutation}
 use Rattle.graph_model.specs.declared.value.Val.{Val}
 use Rattle.graph_model.specs.declared.number.NodeNo.{NodeNo}
 use Rattle.graph_model.specs.declared.number.EdgeNo.{EdgeNo}
@@ -14,8 +12,7 @@ use Rattle.vertex_lang.specs.declared.arc.Arc.{Arc}
 use Rattle.vertex_lang.specs.declared.program.Program.{Program}
 use Rattle.vertex_lang.specs.declared.program.Along.{Along}
 use Rattle.vertex_lang.specs.declared.program.Along.TheVariants as along
-use Rattle.vertex_lang.specs.ArcLaws.{arcs-run}
-use Rattle.vertex_lang.specs.Arcs.{arcs_between, arcs_of_edge, forward, backward, IsArc, outdeg}
+use Rattle.vertex_lang.specs.Arcs.{arcs_between, arcs_of_edge, forward, backward, IsArc}
 use Rattle.vertex_lang.specs.Directions.{RunsAlong}
 use Rattle.vertex_lang.specs.Expressions.{Answer, start_of}
 use Rattle.vertex_lang.specs.ExtremeLaws.{contains-here, contains-there, contains-none, contains-cases}
@@ -29,7 +26,6 @@ use Rattle.round_kernel.specs.declared.rows.Rows.{Rows}
 use Rattle.round_kernel.specs.Sides.{arcs_in, IsTurned, AreDegrees, AreSent, MayKeep, IsRound}
 use Rattle.lone_work.specs.Work.{node_marked}
 use Rattle.round_kernel.specs.Histories.{IsHistory, HasChanges, HasNodes}
-use Rattle.round_kernel.specs.RowLists.{edge}
 use Rattle.round_kernel.specs.Queues.{IsQueue}
 use Rattle.round_kernel.specs.Rounds.{was_touched}
 use Rattle.round_kernel.specs.Frames.{IsFrame, StandAt, count_in, was_touched_at}
@@ -73,8 +69,7 @@ pub turned-told : (way : Along) (graph : GraphData) (rows : Rows) (old new : Lis
 turned-told way graph rows old new turned arcs within size is tells e = λ i d low t.
     let a = get_or rows.by_head i d in
     let arc : IsArc graph a = within i d low in
-    let runs : RunsAlong way graph a = All-permutation (RunsAlong way graph) (arcs_between way graph (map edge (range_with_len 0 (length graph.ends)))) rows.by_head is (arcs-run way graph (map edge (range_with_len 0 (length graph.ends)))) i d low in
-    subst (λ (xs : List Arc). Contains xs a) (sym e) (in-edges way graph turned a (tells a.edge.0 (omega (arith, arc.edge, size)) t) runs)
+    subst (λ (xs : List Arc). Contains xs a) (sym e) (in-edges way graph turned a (tells a.edge.0 (omega (arith, arc.edge, size)) t) (is i d low))
 
 -- ---- the lists at round 0
 

@@ -10,7 +10,7 @@ use Rattle.graph_model.specs.declared.number.NodeNo.{NodeNo}
 use Rattle.graph_model.specs.GraphData.{GraphData}
 use Rattle.vertex_lang.specs.declared.arc.Arc.{Arc}
 use Rattle.vertex_lang.specs.declared.program.Program.{Program}
-use Rattle.vertex_lang.specs.Arcs.{IsArc, outdeg}
+use Rattle.vertex_lang.specs.Arcs.{IsArc}
 use Rattle.vertex_lang.specs.Expressions.{Answer}
 use Rattle.vertex_lang.specs.Lone.{same_value}
 use Rattle.vertex_lang.specs.Rounds.{value_at, lone}

@@ -20,3 +20,5 @@ pub mod Beginning
 pub mod Growing
 pub mod Gathered
 pub mod Marking
+pub mod Kept
+pub mod KeptRounds

@@ -63,6 +63,14 @@ module _ (answer : Answer) (p : Program) (graph : GraphData) (arcs : List Arc) (
   not-right true b e = refl
   not-right false b e = absurd cc
 
+  not-also : (a b : Bool) → b ≡ false → true ≡ not (a && b)
+  not-also true b e = sym (ap not e)
+  not-also false b e = refl
+
+  -- by other messages than in the round before
+  pub marked-by-messages : (k : ℕ) → r ≡ suc k → are_one same_value (got_values answer p graph arcs v r) (got_values answer p graph arcs v k) ≡ false → true ≡ node_marked answer p graph (Some arcs) v r
+  marked-by-messages k at e = not-also (same_value (value_at (lone answer p graph arcs r) v) (value_at (lone answer p graph arcs k) v)) (are_one same_value (got_values answer p graph arcs v r) (got_values answer p graph arcs v k)) e ∙ sym (parted k at)
+
   pub marked-own : (k : ℕ) → r ≡ suc k → (now before : List Val) (b : Bool) → now ≡ lone answer p graph arcs r → before ≡ lone answer p graph arcs k
       → b ≡ not (same_value (value_at now v) (value_at before v)) → b ≡ true → true ≡ node_marked answer p graph (Some arcs) v r
   marked-own k at now before b en eb e t =

@@ -1,5 +1,5 @@
 -- What stays the same in all rounds of a step, and what is to be found in a round.
-use Rattle.std.specs.Prelude.{◌≡◌, ◌<◌, ◌≤◌, ◌+◌, ◌-◌, ◌&&◌, not, ℕ, Bool, false, List, length, get_or, All, Contains, Option, Some}
+use Rattle.std.specs.Prelude.{◌≡◌, ◌<◌, ◌≤◌, ◌+◌, ◌-◌, ◌&&◌, not, ℕ, Bool, true, false, List, length, get_or, All, Contains, Option, Some}
 use Rattle.graph_model.specs.declared.value.Val.{Val}
 use Rattle.vertex_lang.specs.declared.arc.Arc.{Arc}
 use Rattle.vertex_lang.specs.Arcs.{IsArc}
@@ -16,6 +16,8 @@ use Rattle.round_kernel.specs.Sides.{arcs_in, IsTurned, AreSent, IsRound}
 use Rattle.round_kernel.specs.Histories.{IsHistory, is_changed}
 use Rattle.round_kernel.specs.RowLists.{AreRows}
 use Rattle.round_kernel.specs.Queues.{waits}
+use Rattle.round_kernel.specs.declared.tally.Kept.{Kept}
+use Rattle.round_kernel.specs.Tallies.{kept_of, kept_at, no_tally}
 use Rattle.round_kernel.specs.Rounds.{old_view, AreAt, was_touched}
 
 -- the arcs of the new view, and of the view before if there's one
@@ -103,6 +105,14 @@ pub record IsPlace (answer : Answer) (f : Frame) (r v : ℕ) (lists : Lists) : T
   pub touched : get_or lists.touched.items v false ≡ was_touched_at answer f r v
   pub marked_size : length lists.marked.items ≡ count_in f
   pub marked : 0 < r → get_or lists.marked.items v false ≡ marked_before answer f r v
+
+-- what is kept of the messages of a node in a round of the new view
+abbrev pub kept_in : Answer → Frame → ℕ → ℕ → Kept
+kept_in answer f r v = kept_at answer f.program.now f.graph.now (new_arcs f) r v
+
+-- it is kept of the touched nodes
+abbrev pub AreKept : Answer → Frame → ℕ → (ℕ → Bool) → List Kept → Type 0
+AreKept answer f r touched kept = (v : ℕ) → v < count_in f → touched v ≡ true → get_or kept v (kept_of no_tally) ≡ kept_in answer f r v
 
 -- all but the touched nodes and the lists that are filled anew stay
 abbrev pub IsKept : Lists → Lists → Type 0

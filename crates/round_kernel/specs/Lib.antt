@@ -7,3 +7,5 @@ pub mod Tallies
 pub mod Rounds
 pub mod Frames
 pub mod Steps
+pub mod FilterLaws
+pub mod RowLaws

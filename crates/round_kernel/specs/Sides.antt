@@ -1,5 +1,5 @@
 -- A round of a view, as the code keeps it: which edges are in the view, how many arcs leave each node, and the values.
-use Rattle.std.specs.Prelude.{◌≡◌, ◌≢◌, ◌<◌, ◌+◌, ◌^◌, ◌==◌, ◌⊎◌, ℕ, Bool, true, false, List, length, map, filter, get_or, Option, Some, None, if◌then◌else◌}
+use Rattle.std.specs.Prelude.{◌≡◌, ◌≢◌, ◌<◌, ◌+◌, ◌^◌, ◌==◌, ◌||◌, ◌⊎◌, ℕ, Bool, true, false, List, length, map, filter, get_or, Option, Some, None, if◌then◌else◌}
 use Rattle.graph_model.specs.declared.value.Val.{Val}
 use Rattle.graph_model.specs.declared.value.Val.TheVariants.{Nil}
 use Rattle.graph_model.specs.GraphData.{GraphData}
@@ -19,6 +19,10 @@ in_view edges a = get_or edges a.edge.0 false
 -- the arcs of a view
 abbrev pub arcs_in : List Arc → List Bool → List Arc
 arcs_in all edges = filter (in_view edges) all
+
+-- the edge of an arc is in one of two views or in both
+abbrev pub in_either : List Bool → List Bool → Arc → Bool
+in_either old new a = in_view old a || in_view new a
 
 -- of a view that may be none
 abbrev pub view_in : List Arc → Option (List Bool) → Option (List Arc)

@@ -1,5 +1,5 @@
 -- What a step makes of all rounds.
-use Rattle.std.specs.Prelude.{◌≡◌, ◌≢◌, ◌<◌, ◌≤◌, ◌+◌, ◌-◌, ◌==◌, ℕ, Bool, false, if◌then◌else◌, List, [], length, get_or, map, Contains, Some}
+use Rattle.std.specs.Prelude.{◌≡◌, ◌≢◌, ◌<◌, ◌≤◌, ◌+◌, ◌-◌, ◌==◌, ℕ, Bool, false, if◌then◌else◌, List, [], length, get_or, map, All, Contains, Some}
 use Rattle.std.specs.List.{range_with_len}
 use Rattle.std.specs.List.Sorted.{IsPermutation}
 use Rattle.graph_model.specs.declared.number.EdgeNo.{EdgeNo}
@@ -10,6 +10,7 @@ use Rattle.vertex_lang.specs.declared.lone.Rounds.TheVariants as limits
 use Rattle.vertex_lang.specs.declared.lone.Outcome.{Outcome}
 use Rattle.vertex_lang.specs.declared.lone.Outcome.TheVariants as outcomes
 use Rattle.vertex_lang.specs.Arcs.{arcs_between}
+use Rattle.vertex_lang.specs.Directions.{RunsAlong}
 use Rattle.vertex_lang.specs.Expressions.{Answer}
 use Rattle.vertex_lang.specs.Rounds.{lone}
 use Rattle.lone_work.specs.Work.{work}
@@ -23,8 +24,12 @@ use Rattle.round_kernel.specs.Sides.{arcs_in}
 use Rattle.round_kernel.specs.Frames.{new_arcs, old_arcs, lone_at, marked_at, count_in}
 
 -- the rows are those of all edges of the graph in this direction
+abbrev pub AreOfAll : Along → GraphData → Rows → Type 0
+AreOfAll way graph rows = IsPermutation (arcs_between way graph (map edge (range_with_len 0 (length graph.ends)))) rows.by_head
+
+-- each arc of the rows is one that its edge gives in this direction
 abbrev pub AreAlong : Along → GraphData → Rows → Type 0
-AreAlong way graph rows = IsPermutation (arcs_between way graph (map edge (range_with_len 0 (length graph.ends)))) rows.by_head
+AreAlong way graph rows = All (RunsAlong way graph) rows.by_head
 
 -- each edge that is in one of the two views alone is told
 abbrev pub TellsAll : List Bool → List Bool → List EdgeNo → Type 0

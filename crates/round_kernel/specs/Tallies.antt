@@ -8,6 +8,12 @@ use Rattle.vertex_lang.specs.Arcs.{total}
 use Rattle.vertex_lang.specs.Mail.{extreme_with}
 use Rattle.vertex_lang.specs.Values.{clamped}
 use Rattle.round_kernel.specs.declared.tally.Tally.{Tally}
+use Rattle.round_kernel.specs.declared.tally.Kept.{Kept}
+use Rattle.graph_model.specs.GraphData.{GraphData}
+use Rattle.vertex_lang.specs.declared.arc.Arc.{Arc}
+use Rattle.vertex_lang.specs.declared.program.Program.{Program}
+use Rattle.vertex_lang.specs.Expressions.{Answer}
+use Rattle.lone_work.specs.Inputs.{got_values}
 
 abbrev pub tally_of : Gather → List Val → Tally
 tally_of kind ms = record { extreme = fold (extreme_with kind) Nil ms; total = total ms; count = length ms }
@@ -31,3 +37,11 @@ gathered_in gather.Count tally = Num (pos tally.count)
 pub record IsBounded (tally : Tally) : Type 0 where
   pub low : neg_ℤ (pos (9_223_372_036_854_775_808 * tally.count)) ≤ℤ tally.total
   pub high : tally.total ≤ℤ pos (9_223_372_036_854_775_808 * tally.count)
+
+-- what is kept of messages
+abbrev pub kept_of : Tally → Kept
+kept_of tally = record { total = tally.total; count = tally.count }
+
+-- and of those that a node gets in a round of a view
+abbrev pub kept_at : Answer → Program → GraphData → List Arc → ℕ → ℕ → Kept
+kept_at answer p graph arcs r v = kept_of (tally_of p.gather (got_values answer p graph arcs v r))

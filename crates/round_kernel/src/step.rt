@@ -9,12 +9,13 @@ ghost use Rattle.round_kernel.specs.Sides.{arcs_in};
 ghost use Rattle.round_kernel.specs.Histories.{IsHistory, HasChanges, changes_from, all_from};
 ghost use Rattle.round_kernel.specs.RowLists.{AreRows};
 ghost use Rattle.round_kernel.specs.Rounds.{AreIdle};
-ghost use Rattle.round_kernel.specs.Frames.{IsFrame, StandAt, new_arcs, old_arcs, lone_at, was_touched_at};
+ghost use Rattle.round_kernel.specs.Frames.{IsFrame, StandAt, new_arcs, old_arcs, lone_at, was_touched_at, count_in, AreKept};
 ghost use Rattle.round_kernel.specs.Steps.{HasRounds, IsRun, outcome_of, TellsAll, AreAlong};
 
 use crate::history::{Change, History, list_at};
 use crate::round::{Frame, Lists, go_on, run_round};
 use crate::rows::Rows;
+use crate::tally::Kept;
 use crate::values::{all_changes, changes_between};
 use crate::visit::Made;
 use graph_model::{EdgeNo, Graph};
@@ -151,11 +152,20 @@ fn run_rounds<U: Updater>(alloc: Global, frame: Frame<'_>, updater: &mut U) -> R
     ensures calls { IfOk result (λ run. U.calls updater.new ≡ U.calls updater.old + run.work) }
 {
     let mut lists = Lists::new(alloc, frame, updater)?;
+    let mut kept = vec![in alloc; Kept::new(); frame.graph.node_count() as usize]?;
     let mut history = History::new(alloc);
     let mut work = 0;
     let mut round = 0;
     while round < frame.limit && !is_quiet(frame.history, &history, round) {
-        work += run_one(alloc, frame, round, &mut history, &mut lists, updater)?;
+        work += run_one(
+            alloc,
+            frame,
+            round,
+            &mut history,
+            &mut lists,
+            &mut kept,
+            updater,
+        )?;
         round += 1;
     }
     trim(&mut history.changes);
@@ -182,6 +192,7 @@ fn run_one<U: Updater>(
     round: u32,
     history: &mut History,
     lists: &mut Lists,
+    kept: &mut [Kept],
     updater: &mut U,
 ) -> Result<u64, NoMemory>
     requires frame { IsFrame U.answer frame frame.limit }
@@ -189,15 +200,19 @@ fn run_one<U: Updater>(
     requires history { HasRounds U.answer frame round history.old }
     requires at { StandAt U.answer frame round (was_touched_at U.answer frame round) lists.old }
     requires idle { AreIdle lists.old }
+    requires kept_size { length kept.old ≡ count_in frame }
+    requires kept { 0 < round → AreKept U.answer frame (round - 1) (was_touched_at U.answer frame round) kept.old }
     ensures history { OnOk result (HasRounds U.answer frame.entry (round + 1) history.new) }
     ensures at { OnOk result (StandAt U.answer frame.entry (round + 1) (was_touched_at U.answer frame.entry (round + 1)) lists.new) }
     ensures idle { OnOk result (AreIdle lists.new) }
+    ensures kept_size { length kept.new ≡ count_in frame.entry }
+    ensures kept { OnOk result (AreKept U.answer frame.entry round (was_touched_at U.answer frame.entry (round + 1)) kept.new) }
     ensures work { IfOk result (λ n. work U.answer frame.entry.program.now frame.entry.graph.now (new_arcs frame.entry) (old_arcs frame.entry) (round + 1) ≡ work U.answer frame.entry.program.now frame.entry.graph.now (new_arcs frame.entry) (old_arcs frame.entry) round + n) }
     ensures few { IfOk result (λ n. n ≤ 1_000_000) }
     ensures calls { IfOk result (λ n. U.calls updater.new ≡ U.calls updater.old + n) }
 {
     let before = history.changes_before(round);
-    let (made, work) = run_round(alloc, frame, before, round, lists, updater)?;
+    let (made, work) = run_round(alloc, frame, before, round, lists, kept, updater)?;
     go_on(
         frame,
         before,

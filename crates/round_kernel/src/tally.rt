@@ -1,9 +1,9 @@
 //! What a node gets in a round, as far as one value is made of it.
 
-ghost use Rattle.std.specs.Prelude.{◌≡◌, ◌<◌, ◌^◌};
+ghost use Rattle.std.specs.Prelude.{◌≡◌, ◌≢◌, ◌<◌, ◌^◌, IsTrue, IsFalse};
 ghost use Rattle.vertex_lang.specs.Mail.{extreme_with};
 ghost use Rattle.vertex_lang.specs.Values.{lesser, greater, clamped};
-ghost use Rattle.round_kernel.specs.Tallies.{no_tally, tally_with, gathered_in, IsBounded};
+ghost use Rattle.round_kernel.specs.Tallies.{no_tally, tally_with, gathered_in, kept_of, IsBounded};
 
 use graph_model::Val;
 use vertex_lang::Gather;
@@ -19,7 +19,42 @@ pub(crate) struct Tally {
     pub(crate) count: u64,
 }
 
+/// What is kept of the messages that a node got: enough to tell most of them from others.
+#[derive(Clone, Copy)]
+pub(crate) struct Kept {
+    /// Their exact sum.
+    pub(crate) total: i128,
+    /// How many there are.
+    pub(crate) count: u64,
+}
+
+impl Kept {
+    /// Of no message.
+    pub(crate) fn new() -> Kept
+        ensures { result ≡ kept_of no_tally }
+    {
+        Kept { total: 0, count: 0 }
+    }
+
+    /// Whether it tells these messages from those that it is of.
+    pub(crate) fn differs(self, tally: Tally) -> bool
+        ensures { IsTrue result → self ≢ kept_of tally }
+    {
+        self.total != tally.total || self.count != tally.count
+    }
+}
+
 impl Tally {
+    /// What is kept of it.
+    pub(crate) fn kept(self) -> Kept
+        ensures { result ≡ kept_of self }
+    {
+        Kept {
+            total: self.total,
+            count: self.count,
+        }
+    }
+
     /// Of no message.
     pub(crate) fn new() -> Tally
         ensures tally { result ≡ no_tally }

@@ -10,10 +10,13 @@ ghost use Rattle.round_kernel.specs.Sides.{arcs_in, row_of, AreSent, IsRound};
 ghost use Rattle.round_kernel.specs.RowLists.{AreRows};
 ghost use Rattle.round_kernel.specs.Rounds.{old_view, was_touched};
 ghost use Rattle.round_kernel.specs.Made.{mark_if, change_if};
+ghost use Rattle.round_kernel.specs.Tallies.{tally_of, kept_at};
+ghost use Rattle.lone_work.specs.Inputs.{got_values};
 
 use crate::history::Change;
 use crate::message::{Scratch, Side, differ, is_other, tally};
 use crate::rows::Rows;
+use crate::tally::{Kept, Tally};
 use graph_model::{Graph, NodeNo, Val};
 use surge_outside::{List, NoMemory};
 use vertex_lang::{Program, Updater};
@@ -46,8 +49,8 @@ pub(crate) struct Made {
     pub(crate) changes: List<Change>,
 }
 
-/// Visits a node: tells whether it is touched and evaluates it where it is counted. The answer is the number of counted nodes
-/// here, 0 or 1.
+/// Visits a node: tells whether it is touched and evaluates it where it is counted. Of a touched node it keeps what
+/// tells its messages from those of the next round. The answer is the number of counted nodes here, 0 or 1.
 pub(crate) fn visit<U: Updater>(
     program: &Program,
     graph: &Graph,
@@ -55,6 +58,7 @@ pub(crate) fn visit<U: Updater>(
     sides: Sides<'_>,
     spot: Spot,
     touched: &mut bool,
+    kept: &mut Kept,
     scratch: &mut Scratch,
     made: &mut Made,
     updater: &mut U,
@@ -67,11 +71,13 @@ pub(crate) fn visit<U: Updater>(
     requires before { IsRound U.answer program.now graph.now rows.now.by_head sides.new.edges.now sides.new.degrees.now sides.before.now (spot.round - 1) }
     requires old { spot.first ≡ false → IsRound U.answer program.now graph.now rows.now.by_head sides.old.edges.now sides.old.degrees.now sides.old.values.now spot.round }
     requires marked { 0 < spot.round → spot.marked ≡ node_marked U.answer program.now graph.now (old_view spot.first rows.now.by_head sides.old.edges.now) spot.node.0 spot.round }
+    requires kept { 0 < spot.round → touched.old ≡ true → kept.old ≡ kept_at U.answer program.now graph.now (arcs_in rows.now.by_head sides.new.edges.now) (spot.round - 1) spot.node.0 }
     requires touched { touched.old ≡ was_touched U.answer program.now graph.now rows.now.by_head spot.first sides.old.edges.now sides.new.edges.now spot.round spot.node.0 }
     requires new_sent { AreSent sides.new.alike program.now graph.now sides.new.degrees.now sides.new.values.now sides.new.sent.now }
     requires before_sent { AreSent sides.new.alike program.now graph.now sides.new.degrees.now sides.before.now sides.before_sent.now }
     requires old_sent { AreSent sides.old.alike program.now graph.now sides.old.degrees.now sides.old.values.now sides.old.sent.now }
     ensures touched { OnOk result (touched.new ≡ node_touched U.answer program.now graph.now (arcs_in rows.now.by_head sides.entry.new.edges.now) (old_view spot.first rows.now.by_head sides.entry.old.edges.now) spot.node.0 spot.round) }
+    ensures kept { OnOk result (touched.new ≡ true → kept.new ≡ kept_at U.answer program.now graph.now (arcs_in rows.now.by_head sides.entry.new.edges.now) spot.round spot.node.0) }
     ensures count { IfOk result (λ n. n ≡ (if node_counted U.answer program.now graph.now (arcs_in rows.now.by_head sides.entry.new.edges.now) (old_view spot.first rows.now.by_head sides.entry.old.edges.now) spot.node.0 spot.round then 1 else 0)) }
     ensures marks { OnOk result (made.new.marks ≡ made.old.marks ++ mark_if (node_touched U.answer program.now graph.now (arcs_in rows.now.by_head sides.entry.new.edges.now) (old_view spot.first rows.now.by_head sides.entry.old.edges.now) spot.node.0 spot.round
         && node_marked U.answer program.now graph.now (Some (arcs_in rows.now.by_head sides.entry.new.edges.now)) spot.node.0 spot.round) spot.node) }
@@ -80,14 +86,15 @@ pub(crate) fn visit<U: Updater>(
         && not (same_value (value_at (values (spot.round + 1)) spot.node.0) (value_at (values spot.round) spot.node.0))) spot.node (value_at (values (spot.round + 1)) spot.node.0)) }
     ensures calls { IfOk result (λ n. U.calls updater.new ≡ U.calls updater.old + n) }
 {
-    let is_touched = is_touched(
-        program, graph, rows, sides, spot, *touched, scratch, updater,
-    )?;
+    let was = *touched;
+    let is_touched = is_touched(program, graph, rows, sides, spot, was, scratch, updater)?;
     *touched = is_touched;
     if !is_touched {
         return Ok(0);
     }
-    visit_touched(program, graph, rows, sides, spot, scratch, made, updater)
+    visit_touched(
+        program, graph, rows, sides, spot, was, kept, scratch, made, updater,
+    )
 }
 
 // Visits a node that is touched.
@@ -97,6 +104,8 @@ fn visit_touched<U: Updater>(
     rows: &Rows,
     sides: Sides<'_>,
     spot: Spot,
+    was: bool,
+    kept: &mut Kept,
     scratch: &mut Scratch,
     made: &mut Made,
     updater: &mut U,
@@ -108,21 +117,28 @@ fn visit_touched<U: Updater>(
     requires new { IsRound U.answer program.now graph.now rows.now.by_head sides.new.edges.now sides.new.degrees.now sides.new.values.now spot.round }
     requires before { IsRound U.answer program.now graph.now rows.now.by_head sides.new.edges.now sides.new.degrees.now sides.before.now (spot.round - 1) }
     requires marked { 0 < spot.round → spot.marked ≡ node_marked U.answer program.now graph.now (old_view spot.first rows.now.by_head sides.old.edges.now) spot.node.0 spot.round }
+    requires was { was ≡ was_touched U.answer program.now graph.now rows.now.by_head spot.first sides.old.edges.now sides.new.edges.now spot.round spot.node.0 }
+    requires kept { 0 < spot.round → was ≡ true → kept.old ≡ kept_at U.answer program.now graph.now (arcs_in rows.now.by_head sides.new.edges.now) (spot.round - 1) spot.node.0 }
     requires touched { node_touched U.answer program.now graph.now (arcs_in rows.now.by_head sides.new.edges.now) (old_view spot.first rows.now.by_head sides.old.edges.now) spot.node.0 spot.round ≡ true }
     requires new_sent { AreSent sides.new.alike program.now graph.now sides.new.degrees.now sides.new.values.now sides.new.sent.now }
     requires before_sent { AreSent sides.new.alike program.now graph.now sides.new.degrees.now sides.before.now sides.before_sent.now }
+    ensures kept { OnOk result (kept.new ≡ kept_at U.answer program.now graph.now (arcs_in rows.now.by_head sides.entry.new.edges.now) spot.round spot.node.0) }
     ensures count { IfOk result (λ n. n ≡ (if node_counted U.answer program.now graph.now (arcs_in rows.now.by_head sides.entry.new.edges.now) (old_view spot.first rows.now.by_head sides.entry.old.edges.now) spot.node.0 spot.round then 1 else 0)) }
     ensures marks { OnOk result (made.new.marks ≡ made.old.marks ++ mark_if (node_marked U.answer program.now graph.now (Some (arcs_in rows.now.by_head sides.entry.new.edges.now)) spot.node.0 spot.round) spot.node) }
     ensures changes { let values = lone U.answer program.now graph.now (arcs_in rows.now.by_head sides.entry.new.edges.now) in
         OnOk result (made.new.changes ≡ made.old.changes ++ change_if (not (same_value (value_at (values (spot.round + 1)) spot.node.0) (value_at (values spot.round) spot.node.0))) spot.node (value_at (values (spot.round + 1)) spot.node.0)) }
     ensures calls { IfOk result (λ n. U.calls updater.new ≡ U.calls updater.old + n) }
 {
-    let marked = is_marked(program, graph, rows, sides, spot, scratch, updater)?;
+    let tally = tally(program, graph, sides.new, rows.into(spot.node));
+    let marked = is_marked(
+        program, graph, rows, sides, spot, was, *kept, tally, scratch, updater,
+    )?;
+    *kept = tally.kept();
     push_mark(&mut made.marks, marked, spot.node)?;
     if !either(marked, spot.marked) {
         return Ok(0);
     }
-    let value = evaluate(program, graph, rows, sides.new, spot, updater);
+    let value = evaluate(program, graph, rows, sides.new, spot, tally, updater);
     let changed = is_other(value, sides.new.values[spot.node.0 as usize]);
     push_change(&mut made.changes, changed, spot.node, value)?;
     Ok(1)
@@ -164,8 +180,49 @@ fn is_touched<U: Updater>(
     Ok(active)
 }
 
-// Whether the input of a node differs from that of the round before, in the new view.
+// Whether the input of a touched node differs from that of the round before, in the new view. Most often what it gets
+// tells it by its sum and count, or that it was just touched and had no mark in the view before; only else its arcs are
+// looked at again.
 fn is_marked<U: Updater>(
+    program: &Program,
+    graph: &Graph,
+    rows: &Rows,
+    sides: Sides<'_>,
+    spot: Spot,
+    was: bool,
+    kept: Kept,
+    tally: Tally,
+    scratch: &mut Scratch,
+    updater: &U,
+) -> Result<bool, NoMemory>
+    requires checked { IsChecked program.now graph.now }
+    requires rows { AreRows graph.now rows.now }
+    requires node { spot.node.0 < length graph.now.ids }
+    requires new { IsRound U.answer program.now graph.now rows.now.by_head sides.new.edges.now sides.new.degrees.now sides.new.values.now spot.round }
+    requires before { IsRound U.answer program.now graph.now rows.now.by_head sides.new.edges.now sides.new.degrees.now sides.before.now (spot.round - 1) }
+    requires marked { 0 < spot.round → spot.marked ≡ node_marked U.answer program.now graph.now (old_view spot.first rows.now.by_head sides.old.edges.now) spot.node.0 spot.round }
+    requires was { was ≡ was_touched U.answer program.now graph.now rows.now.by_head spot.first sides.old.edges.now sides.new.edges.now spot.round spot.node.0 }
+    requires kept { 0 < spot.round → was ≡ true → kept ≡ kept_at U.answer program.now graph.now (arcs_in rows.now.by_head sides.new.edges.now) (spot.round - 1) spot.node.0 }
+    requires tally { tally ≡ tally_of program.now.gather (got_values U.answer program.now graph.now (arcs_in rows.now.by_head sides.new.edges.now) spot.node.0 spot.round) }
+    requires touched { node_touched U.answer program.now graph.now (arcs_in rows.now.by_head sides.new.edges.now) (old_view spot.first rows.now.by_head sides.old.edges.now) spot.node.0 spot.round ≡ true }
+    requires new_sent { AreSent sides.new.alike program.now graph.now sides.new.degrees.now sides.new.values.now sides.new.sent.now }
+    requires before_sent { AreSent sides.new.alike program.now graph.now sides.new.degrees.now sides.before.now sides.before_sent.now }
+    ensures { IfOk result (λ b. b ≡ node_marked U.answer program.now graph.now (Some (arcs_in rows.now.by_head sides.entry.new.edges.now)) spot.node.0 spot.round) }
+{
+    if spot.round == 0 {
+        return Ok(true);
+    }
+    if !was && !spot.marked {
+        return Ok(true);
+    }
+    if was && kept.differs(tally) {
+        return Ok(true);
+    }
+    is_other_input(program, graph, rows, sides, spot, scratch, updater)
+}
+
+// Whether the input of a node differs from that of the round before, in the new view, found by a look at all its arcs.
+fn is_other_input<U: Updater>(
     program: &Program,
     graph: &Graph,
     rows: &Rows,
@@ -213,21 +270,22 @@ fn is_marked<U: Updater>(
 fn evaluate<U: Updater>(
     program: &Program,
     graph: &Graph,
-    rows: &Rows,
+    _rows: &Rows,
     side: Side<'_>,
     spot: Spot,
+    tally: Tally,
     updater: &mut U,
 ) -> Val
     requires checked { IsChecked program.now graph.now }
-    requires rows { AreRows graph.now rows.now }
+    requires rows { AreRows graph.now _rows.now }
     requires node { spot.node.0 < length graph.now.ids }
     requires start { spot.start ≡ start_of program.now graph.now spot.node.0 }
-    requires new { IsRound U.answer program.now graph.now rows.now.by_head side.edges.now side.degrees.now side.values.now spot.round }
+    requires new { IsRound U.answer program.now graph.now _rows.now.by_head side.edges.now side.degrees.now side.values.now spot.round }
+    requires tally { tally ≡ tally_of program.now.gather (got_values U.answer program.now graph.now (arcs_in _rows.now.by_head side.edges.now) spot.node.0 spot.round) }
     requires sent { AreSent side.alike program.now graph.now side.degrees.now side.values.now side.sent.now }
-    ensures value { result ≡ value_at (lone U.answer program.now graph.now (arcs_in rows.now.by_head side.entry.edges.now) (spot.round + 1)) spot.node.0 }
+    ensures value { result ≡ value_at (lone U.answer program.now graph.now (arcs_in _rows.now.by_head side.entry.edges.now) (spot.round + 1)) spot.node.0 }
     ensures calls { U.calls updater.new ≡ U.calls updater.old + 1 }
 {
-    let tally = tally(program, graph, side, rows.into(spot.node));
     let value = side.values[spot.node.0 as usize];
     let gathered = tally.gathered(program.gather);
     let id = graph.id(spot.node);

@@ -9,7 +9,7 @@ use Rattle.vertex_lang.specs.Leaves.{IsChecked}
 use Rattle.vertex_lang.specs.Lone.{number_of}
 use Rattle.round_kernel.specs.declared.rows.Rows.{Rows}
 use Rattle.round_kernel.specs.RowLists.{AreRows}
-use Rattle.round_kernel.specs.Steps.{AreAlong}
+use Rattle.round_kernel.specs.Steps.{AreOfAll}
 use Rattle.segment_split.specs.declared.SplitRule.{SplitRule}
 use Rattle.segment_split.specs.declared.SplitRule.TheVariants as split
 use Rattle.view_matrix.specs.Matrices.{MatrixData, IsView}
@@ -105,7 +105,7 @@ work_at e v = work_in (segments_in e) v
 -- the working lists, if there are any, are those of the graph in this direction
 abbrev pub AreRowsOf : GraphData → Along → Option Rows → Type 0
 AreRowsOf graph along None = ⊤
-AreRowsOf graph along (Some rows) = AreRows graph rows × AreAlong along graph rows
+AreRowsOf graph along (Some rows) = AreRows graph rows × AreOfAll along graph rows
 
 -- An engine stands for a matrix: its segments are those of the split, each holds what its views ask, and the results hold
 -- exactly the views that were stepped.

@@ -17,10 +17,11 @@ use Rattle.vertex_lang.specs.ExtremeLaws.{contains-here, contains-there, contain
 use Rattle.round_kernel.specs.declared.rows.Rows.{Rows}
 use Rattle.round_kernel.specs.RowLists.{edge}
 use Rattle.round_kernel.specs.Sides.{arcs_in, in_view}
-use Rattle.round_kernel.specs.Steps.{AreAlong, TellsAll}
+use Rattle.round_kernel.specs.FilterLaws.{filter-permuted}
+use Rattle.round_kernel.specs.Steps.{AreOfAll, TellsAll}
 use Rattle.view_matrix.specs.Matrices.{MatrixData, bit_of, rule_bit_of, all_edges, edges_in, apart, differ}
 use Rattle.view_segment.specs.Steps.{flags_of}
-use Rattle.view_segment.proofs.Filters.{filter-permuted, filter-parts}
+use Rattle.view_segment.proofs.Filters.{filter-parts}
 
 -- ---- of any edge, also of one behind the last
 
@@ -48,7 +49,7 @@ edge-kept along.In graph test e = refl
 edge-kept along.Both graph test e = both-by (test e.0) (forward graph e) (backward graph e)
 
 -- the arcs that the flags choose are those of the view, in another order
-pub view-chosen : (way : Along) (graph : GraphData) (rows : Rows) (m : MatrixData) (v : ℕ) → AreAlong way graph rows → length m.live ≡ length graph.ends → IsPermutation (arcs_between way graph (edges_in m v)) (arcs_in rows.by_head (flags_of m v))
+pub view-chosen : (way : Along) (graph : GraphData) (rows : Rows) (m : MatrixData) (v : ℕ) → AreOfAll way graph rows → length m.live ≡ length graph.ends → IsPermutation (arcs_between way graph (edges_in m v)) (arcs_in rows.by_head (flags_of m v))
 view-chosen way graph rows m v along size =
     let bits : Arc → Bool = λ a. bit_of m a.edge.0 v in
     let all : List Arc = arcs_between way graph (all_edges m) in

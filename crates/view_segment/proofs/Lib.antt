@@ -1,5 +1,6 @@
 pub mod Filters
 pub mod Transport
 pub mod Choosing
+pub mod Turning
 pub mod Stepping
 pub mod Lasting

@@ -1,13 +1,14 @@
 -- What a step is given, and what it gives.
-use Rattle.std.specs.Prelude.{◌≡◌, ◌≤◌, ℕ, Bool, List, length, map, Option, Some}
+use Rattle.std.specs.Prelude.{◌≡◌, ◌≤◌, ℕ, Bool, false, not, List, length, map, get_or, slice_set, Option, Some}
 use Rattle.std.specs.List.{range_with_len}
+use Rattle.graph_model.specs.declared.number.EdgeNo.{EdgeNo}
 use Rattle.vertex_lang.specs.Expressions.{Answer}
 use Rattle.vertex_lang.specs.Leaves.{IsChecked}
 use Rattle.vertex_lang.specs.Lone.{number_of}
 use Rattle.round_kernel.specs.declared.step.Stepped.{Stepped}
 use Rattle.round_kernel.specs.Histories.{IsHistory}
 use Rattle.round_kernel.specs.RowLists.{AreRows}
-use Rattle.round_kernel.specs.Steps.{AreAlong}
+use Rattle.round_kernel.specs.Steps.{AreOfAll}
 use Rattle.view_matrix.specs.Matrices.{MatrixData, bit_of}
 use Rattle.view_segment.specs.declared.step.Setting.{Setting}
 use Rattle.view_segment.specs.Segments.{change_of}
@@ -17,12 +18,16 @@ use Rattle.view_segment.specs.Tasks.{Task, task_over, view_arcs, lone_of, work_o
 abbrev pub flags_of : MatrixData → ℕ → List Bool
 flags_of m v = map (λ e. bit_of m e v) (range_with_len 0 (length m.live))
 
+-- flags with that of an edge turned
+abbrev pub with_turned : List Bool → EdgeNo → List Bool
+with_turned flags e = slice_set flags e.0 (not (get_or flags e.0 false))
+
 pub record IsSetting (s : Setting) : Type 0 where
   pub checked : IsChecked s.program.now s.graph.now
   pub some : 1 ≤ number_of s.rounds
   pub limit : number_of s.rounds ≤ 1_000_000
   pub rows : AreRows s.graph.now s.rows.now
-  pub along : AreAlong s.program.now.along s.graph.now s.rows.now
+  pub along : AreOfAll s.program.now.along s.graph.now s.rows.now
   pub matrix : length s.matrix.now.live ≡ length s.graph.now.ends
 
 abbrev pub task_in : Answer → Setting → Task

@@ -1,32 +1,13 @@
-//! The edges of a view as flags, and those that two views don't share.
+//! The edges that two views don't share, and the flags of a view by those of another one.
 
-ghost use Rattle.std.specs.Prelude.{◌≡◌, length, Some, IfOk};
+ghost use Rattle.std.specs.Prelude.{◌≡◌, ◌<◌, length, fold, All, Some, IfOk};
 ghost use Rattle.view_matrix.specs.Matrices.{IsView, apart};
-ghost use Rattle.view_segment.specs.Steps.{flags_of};
+ghost use Rattle.view_segment.specs.Steps.{with_turned};
 
-use graph_model::{EdgeNo, Graph, ViewNo};
+use graph_model::{EdgeNo, ViewNo};
 use std::alloc::Global;
 use surge_outside::{List, NoMemory};
 use view_matrix::Matrix;
-
-/// Of each edge of the graph whether it stands in the view. The error is want of memory.
-pub(crate) fn edge_flags(
-    alloc: Global,
-    graph: &Graph,
-    matrix: &Matrix,
-    view: ViewNo,
-) -> Result<Vec<bool>, NoMemory>
-    requires matrix { length matrix.now.live ≡ length graph.now.ends }
-    requires view { IsView matrix.now view }
-    ensures { IfOk result (λ flags. flags.items ≡ flags_of matrix.now view.0) }
-{
-    let count = graph.edge_count();
-    let mut flags = Vec::with_capacity(alloc, count as usize)?;
-    for edge in 0..count {
-        flags.push(matrix.bit(EdgeNo(edge), view))?;
-    }
-    Ok(flags)
-}
 
 /// The edges that stand in one of the two views alone. The error is want of memory.
 pub(crate) fn turned_edges(
@@ -45,4 +26,22 @@ pub(crate) fn turned_edges(
         edges.push(difference.0)?;
     }
     Ok(edges)
+}
+
+/// These flags with those of these edges turned. The error is want of memory.
+pub(crate) fn turned_flags(
+    alloc: Global,
+    flags: &[bool],
+    turned: &[EdgeNo],
+) -> Result<Vec<bool>, NoMemory>
+    requires { All (λ e. e.0 < length flags.now) turned.now }
+    ensures { IfOk result (λ new. new.items ≡ fold with_turned flags.now turned.now) }
+{
+    let mut new = Vec::with_capacity(alloc, flags.len())?;
+    new.extend_from_slice(flags)?;
+    for edge in turned {
+        let place = edge.0 as usize;
+        new[place] = !new[place];
+    }
+    Ok(new)
 }

@@ -1,14 +1,18 @@
 //! The step of one view.
 
-ghost use Rattle.std.specs.Prelude.{◌≡◌, ◌+◌, Some, None, IfOk};
-ghost use Rattle.vertex_lang.specs.Lone.{number_of};
-ghost use Rattle.round_kernel.specs.Histories.{IsHistory};
+ghost use Rattle.std.specs.Prelude.{◌≡◌, ◌<◌, ◌+◌, length, All, Some, None, IfOk};
+ghost use Rattle.vertex_lang.specs.Lone.{number_of, answer_of};
+ghost use Rattle.vertex_lang.specs.Rounds.{lone};
+ghost use Rattle.lone_work.specs.Work.{work};
+ghost use Rattle.round_kernel.specs.Histories.{IsHistory, all_from, changes_from};
+ghost use Rattle.round_kernel.specs.Sides.{arcs_in};
+ghost use Rattle.round_kernel.specs.Steps.{TellsAll};
 ghost use Rattle.view_matrix.specs.Matrices.{IsView};
 ghost use Rattle.view_segment.specs.Tasks.{view_arcs};
 ghost use Rattle.view_segment.specs.Steps.{IsSetting, IsStep, task_in};
 
-use crate::flags::{edge_flags, turned_edges};
-use graph_model::{Graph, ViewNo};
+use crate::flags::{turned_edges, turned_flags};
+use graph_model::{EdgeNo, Graph, ViewNo};
 use round_kernel::{History, Rows, Stepped, first_step, next_step};
 use std::alloc::Global;
 use surge_outside::NoMemory;
@@ -37,16 +41,9 @@ pub(crate) fn step_first<U: Updater>(
     ensures step { IfOk result (IsStep (task_in U.answer setting.entry) None view.0) }
     ensures calls { IfOk result (λ s. U.calls updater.new ≡ U.calls updater.old + s.work) }
 {
-    let edges = edge_flags(alloc, setting.graph, setting.matrix, view)?;
-    first_step(
-        alloc,
-        setting.program,
-        setting.graph,
-        setting.rows,
-        &edges,
-        setting.rounds,
-        updater,
-    )
+    let few = are_few(setting.graph, setting.matrix.size(view));
+    let edges = setting.matrix.flags(alloc, view)?;
+    first_within(alloc, setting, few, &edges, updater)
 }
 
 /// Steps a view behind another one, given the history of that one. The error is want of memory.
@@ -65,18 +62,164 @@ pub(crate) fn step_later<U: Updater>(
     ensures step { IfOk result (IsStep (task_in U.answer setting.entry) (Some before.0) view.0) }
     ensures calls { IfOk result (λ s. U.calls updater.new ≡ U.calls updater.old + s.work) }
 {
-    let old = edge_flags(alloc, setting.graph, setting.matrix, before)?;
-    let new = edge_flags(alloc, setting.graph, setting.matrix, view)?;
     let turned = turned_edges(alloc, setting.matrix, before, view)?;
-    next_step(
+    let twice = setting.matrix.size(before) + setting.matrix.size(view) + turned.len() as u64;
+    let few = are_few(setting.graph, twice / 2);
+    let old = setting.matrix.flags(alloc, before)?;
+    let new = turned_flags(alloc, &old, turned.as_slice())?;
+    next_within(
         alloc,
-        setting.program,
-        setting.graph,
-        setting.rows,
+        setting,
+        few,
         history,
         &old,
         &new,
         turned.as_slice(),
+        updater,
+    )
+}
+
+// Whether so many edges are less than half of those of the graph: then their arcs are filtered first, since a step goes
+// over arcs more than once.
+fn are_few(graph: &Graph, edges: u64) -> bool {
+    edges < u64::from(graph.edge_count()) / 2
+}
+
+// ---- over all arcs, or over those of few edges
+
+// The step of a view that none stands before. Where it is told that the view has few edges, it goes over the arcs of
+// these alone.
+fn first_within<U: Updater>(
+    alloc: Global,
+    setting: Setting<'_>,
+    few: bool,
+    edges: &[bool],
+    updater: &mut U,
+) -> Result<Stepped, NoMemory>
+    requires setting { IsSetting setting }
+    requires edges { length edges.now ≡ length setting.graph.now.ends }
+    ensures history { IfOk result (λ s. IsHistory U.answer setting.entry.program.now setting.entry.graph.now (Some (arcs_in setting.entry.rows.now.by_head edges.now)) (number_of setting.entry.rounds) s.history) }
+    ensures outcome { IfOk result (λ s. s.outcome ≡ (answer_of U.answer setting.entry.program.now setting.entry.graph.now (arcs_in setting.entry.rows.now.by_head edges.now) setting.entry.rounds).outcome) }
+    ensures change { IfOk result (λ s. s.change ≡ all_from 0 (lone U.answer setting.entry.program.now setting.entry.graph.now (arcs_in setting.entry.rows.now.by_head edges.now) (number_of setting.entry.rounds))) }
+    ensures work { IfOk result (λ s. s.work ≡ work U.answer setting.entry.program.now setting.entry.graph.now (arcs_in setting.entry.rows.now.by_head edges.now) None (number_of setting.entry.rounds)) }
+    ensures calls { IfOk result (λ s. U.calls updater.new ≡ U.calls updater.old + s.work) }
+{
+    if few {
+        first_few(alloc, setting, edges, updater)
+    } else {
+        first_step(
+            alloc,
+            setting.program,
+            setting.graph,
+            setting.rows,
+            edges,
+            setting.rounds,
+            updater,
+        )
+    }
+}
+
+// The same over the arcs of these edges alone.
+fn first_few<U: Updater>(
+    alloc: Global,
+    setting: Setting<'_>,
+    edges: &[bool],
+    updater: &mut U,
+) -> Result<Stepped, NoMemory>
+    requires setting { IsSetting setting }
+    requires edges { length edges.now ≡ length setting.graph.now.ends }
+    ensures history { IfOk result (λ s. IsHistory U.answer setting.entry.program.now setting.entry.graph.now (Some (arcs_in setting.entry.rows.now.by_head edges.now)) (number_of setting.entry.rounds) s.history) }
+    ensures outcome { IfOk result (λ s. s.outcome ≡ (answer_of U.answer setting.entry.program.now setting.entry.graph.now (arcs_in setting.entry.rows.now.by_head edges.now) setting.entry.rounds).outcome) }
+    ensures change { IfOk result (λ s. s.change ≡ all_from 0 (lone U.answer setting.entry.program.now setting.entry.graph.now (arcs_in setting.entry.rows.now.by_head edges.now) (number_of setting.entry.rounds))) }
+    ensures work { IfOk result (λ s. s.work ≡ work U.answer setting.entry.program.now setting.entry.graph.now (arcs_in setting.entry.rows.now.by_head edges.now) None (number_of setting.entry.rounds)) }
+    ensures calls { IfOk result (λ s. U.calls updater.new ≡ U.calls updater.old + s.work) }
+{
+    let rows = setting.rows.within(alloc, setting.graph, edges, edges)?;
+    first_step(
+        alloc,
+        setting.program,
+        setting.graph,
+        &rows,
+        edges,
+        setting.rounds,
+        updater,
+    )
+}
+
+// The step of a view behind another one. Where it is told that the two have few edges, it goes over the arcs of these
+// alone.
+fn next_within<U: Updater>(
+    alloc: Global,
+    setting: Setting<'_>,
+    few: bool,
+    history: &History,
+    old: &[bool],
+    new: &[bool],
+    turned: &[EdgeNo],
+    updater: &mut U,
+) -> Result<Stepped, NoMemory>
+    requires setting { IsSetting setting }
+    requires old { length old.now ≡ length setting.graph.now.ends }
+    requires new { length new.now ≡ length setting.graph.now.ends }
+    requires turned { All (λ e. e.0 < length setting.graph.now.ends) turned.now }
+    requires all_turned { TellsAll old.now new.now turned.now }
+    requires history { IsHistory U.answer setting.program.now setting.graph.now (Some (arcs_in setting.rows.now.by_head old.now)) (number_of setting.rounds) history.now }
+    ensures history { IfOk result (λ s. IsHistory U.answer setting.entry.program.now setting.entry.graph.now (Some (arcs_in setting.entry.rows.now.by_head new.now)) (number_of setting.entry.rounds) s.history) }
+    ensures outcome { IfOk result (λ s. s.outcome ≡ (answer_of U.answer setting.entry.program.now setting.entry.graph.now (arcs_in setting.entry.rows.now.by_head new.now) setting.entry.rounds).outcome) }
+    ensures change { IfOk result (λ s. s.change ≡ changes_from 0 (lone U.answer setting.entry.program.now setting.entry.graph.now (arcs_in setting.entry.rows.now.by_head old.now) (number_of setting.entry.rounds)) (lone U.answer setting.entry.program.now setting.entry.graph.now (arcs_in setting.entry.rows.now.by_head new.now) (number_of setting.entry.rounds))) }
+    ensures work { IfOk result (λ s. s.work ≡ work U.answer setting.entry.program.now setting.entry.graph.now (arcs_in setting.entry.rows.now.by_head new.now) (Some (arcs_in setting.entry.rows.now.by_head old.now)) (number_of setting.entry.rounds)) }
+    ensures calls { IfOk result (λ s. U.calls updater.new ≡ U.calls updater.old + s.work) }
+{
+    if few {
+        next_few(alloc, setting, history, old, new, turned, updater)
+    } else {
+        next_step(
+            alloc,
+            setting.program,
+            setting.graph,
+            setting.rows,
+            history,
+            old,
+            new,
+            turned,
+            setting.rounds,
+            updater,
+        )
+    }
+}
+
+// The same over the arcs of the edges of the two views alone.
+fn next_few<U: Updater>(
+    alloc: Global,
+    setting: Setting<'_>,
+    history: &History,
+    old: &[bool],
+    new: &[bool],
+    turned: &[EdgeNo],
+    updater: &mut U,
+) -> Result<Stepped, NoMemory>
+    requires setting { IsSetting setting }
+    requires old { length old.now ≡ length setting.graph.now.ends }
+    requires new { length new.now ≡ length setting.graph.now.ends }
+    requires turned { All (λ e. e.0 < length setting.graph.now.ends) turned.now }
+    requires all_turned { TellsAll old.now new.now turned.now }
+    requires history { IsHistory U.answer setting.program.now setting.graph.now (Some (arcs_in setting.rows.now.by_head old.now)) (number_of setting.rounds) history.now }
+    ensures history { IfOk result (λ s. IsHistory U.answer setting.entry.program.now setting.entry.graph.now (Some (arcs_in setting.entry.rows.now.by_head new.now)) (number_of setting.entry.rounds) s.history) }
+    ensures outcome { IfOk result (λ s. s.outcome ≡ (answer_of U.answer setting.entry.program.now setting.entry.graph.now (arcs_in setting.entry.rows.now.by_head new.now) setting.entry.rounds).outcome) }
+    ensures change { IfOk result (λ s. s.change ≡ changes_from 0 (lone U.answer setting.entry.program.now setting.entry.graph.now (arcs_in setting.entry.rows.now.by_head old.now) (number_of setting.entry.rounds)) (lone U.answer setting.entry.program.now setting.entry.graph.now (arcs_in setting.entry.rows.now.by_head new.now) (number_of setting.entry.rounds))) }
+    ensures work { IfOk result (λ s. s.work ≡ work U.answer setting.entry.program.now setting.entry.graph.now (arcs_in setting.entry.rows.now.by_head new.now) (Some (arcs_in setting.entry.rows.now.by_head old.now)) (number_of setting.entry.rounds)) }
+    ensures calls { IfOk result (λ s. U.calls updater.new ≡ U.calls updater.old + s.work) }
+{
+    let rows = setting.rows.within(alloc, setting.graph, old, new)?;
+    next_step(
+        alloc,
+        setting.program,
+        setting.graph,
+        &rows,
+        history,
+        old,
+        new,
+        turned,
         setting.rounds,
         updater,
     )

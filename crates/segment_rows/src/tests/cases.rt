@@ -16,6 +16,10 @@ const FOUR: &[u8] = b"id\n1\n2\n3\n4\n";
 // Two ways from 1 to 3, and from there to 4.
 const WAYS: &[u8] = b"src,dst,y:int\n1,2,1\n2,3,1\n1,3,2\n3,4,3\n";
 
+// The same among edges of which no comparison holds, since their cell is absent.
+const WAYS_AMONG_OTHERS: &[u8] =
+    b"src,dst,y:int\n4,1,\n1,2,1\n2,4,\n2,3,1\n4,2,\n1,3,2\n1,4,\n3,4,3\n4,3,\n3,1,\n";
+
 // A way from 1 to 4 over all nodes, and one edge.
 const SHORTCUT: &[u8] = b"src,dst,k:int\n1,2,0\n2,3,0\n3,4,0\n1,4,1\n";
 
@@ -50,6 +54,8 @@ fn edges_come_and_go(rt: HostRuntime) -> Result<(), Fail> {
         steps.as_str(),
         "0: settled 2 0:0 1:1 2:2 3:-\n1 behind 0: settled 1 2:1\n2 behind 1: settled 2 1:- 3:2\nworks 7 3 5"
     );
+    let among_others = hop_steps(alloc, FOUR, WAYS_AMONG_OTHERS, &rules, Rounds::Within(3))?;
+    assert_eq!(rt; among_others.as_str(), steps.as_str());
     Ok(())
 }
 

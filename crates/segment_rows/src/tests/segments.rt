@@ -4,7 +4,7 @@ ghost use Rattle.std.specs.Prelude.{◌≡◌, ◌<◌, ◌≤◌, [], length, A
 ghost use Rattle.vertex_lang.specs.Leaves.{IsChecked};
 ghost use Rattle.vertex_lang.specs.Lone.{number_of};
 ghost use Rattle.round_kernel.specs.RowLists.{AreRows};
-ghost use Rattle.round_kernel.specs.Steps.{AreAlong};
+ghost use Rattle.round_kernel.specs.Steps.{AreOfAll};
 ghost use Rattle.view_matrix.specs.Matrices.{IsView};
 ghost use Rattle.view_segment.specs.Segments.{SegmentStands};
 ghost use Rattle.view_segment.specs.Tasks.{task_over};
@@ -95,7 +95,7 @@ fn step_all<U: Updater>(
     requires some { 1 ≤ number_of rounds }
     requires limit { number_of rounds ≤ 1_000_000 }
     requires rows { AreRows graph.now rows.now }
-    requires along { AreAlong program.now.along graph.now rows.now }
+    requires along { AreOfAll program.now.along graph.now rows.now }
     requires matrix { length matrix.now.live ≡ length graph.now.ends }
     requires views { All (IsView matrix.now) segment.old.views }
     requires stands { SegmentStands (task_over U.answer program.now graph.now rounds matrix.now) segment.old }

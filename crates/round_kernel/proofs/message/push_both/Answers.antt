@@ -1,4 +1,4 @@
-use Rattle.std.proofs.Common.{◌++◌, ◌∷◌, [], List, filter, subst, refl}
+use Rattle.std.proofs.Common.{◌++◌, ◌∷◌, [], filter, subst, refl}
 use Rattle.graph_model.specs.declared.value.Val.{Val}
 use Rattle.vertex_lang.specs.Arcs.{is_sent}
 use Rattle.round_kernel.specs.Sides.{brings, AreLeft}

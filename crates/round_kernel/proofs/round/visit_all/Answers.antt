@@ -10,11 +10,13 @@ use Rattle.round_kernel.proofs.Waiting.{queue-at, queue-step}
 use Rattle.round_kernel.proofs.Visiting.{done, one-most}
 use Rattle.round_kernel.proofs.Standing.{at-queue, place-of, shown-still}
 use Rattle.round_kernel.proofs.Stepping.{IsVisiting, meanwhile, visiting-start, visiting-next, waiting-was}
+use Rattle.round_kernel.proofs.KeptRounds.{IsKeeping, keeping-start, keeping-next}
 use Rattle.round_kernel.proofs.round.visit_all.Goals as goal
 
 pub loop-node-init : goal.loop-node-init
 loop-node-init g c = record {
   visiting = visiting-start g.U.Updater.answer c.args.frame c.args.round c.args.lists.now c.args.made.now c.requires.at c.requires.calm c.requires.marks c.requires.changes;
+  keeping = keeping-start g.U.Updater.answer c.args.frame c.args.round c.args.lists.now c.args.kept.now c.requires.kept_size c.requires.calm c.requires.kept;
   shown = refl;
   calls = omega arith;
 }
@@ -37,6 +39,14 @@ visit_one-requires-clause-at g c =
     (at-queue answer f r (meanwhile answer f r lists0.queue) lists0 q1 c.loop-node.invariant.visiting.at (queue-step _ lists0.queue q1 c.loop-node.invariant.visiting.at.queue c.in-Some.ensures.queue))
     (shown-still answer f r c.args.lists.now (record lists0 { queue = q1 }) c.loop-node.invariant.shown c.requires.shown)
 
+pub visit_one-requires-clause-sums_size : goal.visit_one-requires-clause-sums_size
+visit_one-requires-clause-sums_size g c = c.loop-node.invariant.keeping.size
+
+pub visit_one-requires-clause-sums : goal.visit_one-requires-clause-sums
+visit_one-requires-clause-sums g c = λ later touched.
+    let low : c.in-Some.node.0 < count_in c.args.frame = omega (arith, c.in-Some.ensures.within, c.loop-node.invariant.visiting.at.queue.size) in
+    c.loop-node.invariant.keeping.before c.in-Some.node.0 low c.in-Some.ensures.was later touched
+
 pub overflow_add-work : goal.overflow_add-work
 overflow_add-work g c =
     let f = c.args.frame in
@@ -57,6 +67,8 @@ loop-node-preserved g c =
       visiting = subst (λ (q : Queue). IsVisiting answer f r q lists2 c.visit_one.new.made (c.loop-node.work + c.in_ok-work.field-0)) (sym same) (visiting-next answer f r lists0.queue q1 lists0 lists2 c.loop-node.made c.visit_one.new.made c.loop-node.work c.in_ok-work.field-0 c.in-Some.node refl low c.in-Some.ensures.was c.in-Some.ensures.taken
           (queue-step _ lists0.queue q1 c.loop-node.invariant.visiting.at.queue c.in-Some.ensures.queue)
           c.in_ok-work.ensures.kept c.in_ok-work.ensures.touched c.in_ok-work.ensures.count c.in_ok-work.ensures.marks c.in_ok-work.ensures.changes c.loop-node.invariant.visiting);
+      keeping = subst (λ (q : Queue). IsKeeping answer f r q c.visit_one.new.kept) (sym same) (keeping-next answer f r lists0.queue q1 c.loop-node.kept c.visit_one.new.kept c.in-Some.node.0 low c.loop-node.invariant.visiting.at.queue.size c.in-Some.ensures.taken
+          c.visit_one.ensures.sums_size c.in_ok-work.ensures.sums c.in_ok-work.ensures.others c.loop-node.invariant.keeping);
       shown = ap (λ (l : Lists). l.marked) c.in_ok-work.ensures.kept ∙ c.loop-node.invariant.shown;
       calls = omega (arith, c.loop-node.invariant.calls, c.in_ok-work.ensures.calls);
     }

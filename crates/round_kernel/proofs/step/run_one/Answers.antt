@@ -5,6 +5,7 @@ use Rattle.std.proofs.lemmas.List.Sums.{count_by-le-length}
 use Rattle.lone_work.specs.CountLaws.{work-by-rounds}
 use Rattle.round_kernel.specs.Frames.{count_in, counted_at, new_arcs, old_arcs}
 use Rattle.round_kernel.proofs.Growing.{rounds-more, changes-last}
+use Rattle.round_kernel.proofs.KeptRounds.{kept-on}
 use Rattle.round_kernel.proofs.step.run_one.Goals as goal
 
 pub go_on-requires-clause-before : goal.go_on-requires-clause-before
@@ -14,6 +15,9 @@ pub returns-clause-history : goal.returns-clause-history
 returns-clause-history g c =
     rounds-more g.U.Updater.answer c.args.frame c.args.history.now c.add_round.new.history c.in_ok-made.made.changes c.in_ok-made.made.marks c.args.round c.requires.history
     c.in_ok-add_round.ensures.changes c.in_ok-add_round.ensures.first c.in_ok-add_round.ensures.later c.in_ok-made.ensures.changes c.in_ok-made.ensures.marks
+
+pub returns-clause-kept : goal.returns-clause-kept
+returns-clause-kept g c = kept-on g.U.Updater.answer c.args.frame c.args.round c.run_round.new.kept c.in_ok-made.ensures.kept
 
 pub returns-clause-work : goal.returns-clause-work
 returns-clause-work g c =

@@ -1,8 +1,12 @@
-use Rattle.std.proofs.Common.{◌∙◌, sym, arith}
+use Rattle.std.proofs.Common.{◌≡◌, ◌∙◌, List, length, ap, sym, arith}
+use Rattle.std.specs.Vec.{with_items}
+use Rattle.std.proofs.lemmas.List.{length-replicate, with_items_is}
 use Rattle.lone_work.specs.StepLaws.{no-round}
+use Rattle.round_kernel.specs.declared.tally.Kept.{Kept}
 use Rattle.round_kernel.specs.Frames.{new_arcs, old_arcs}
 use Rattle.round_kernel.proofs.Growing.{rounds-none}
 use Rattle.round_kernel.proofs.Ending.{IsEnd, end-quiet, end-all, run-history, run-work, run-new, run-old}
+use Rattle.round_kernel.proofs.KeptRounds.{kept-next}
 use Rattle.round_kernel.proofs.step.run_rounds.Goals as goal
 use Rattle.round_kernel.proofs.step.run_rounds.Goals.{then-loop-round-test+else-not-is_quiet, else-loop-round-test}
 
@@ -11,11 +15,30 @@ loop-round-init g c = record {
   rounds = rounds-none g.U.Updater.answer c.args.frame c.new-history.result c.new-history.ensures.changes c.new-history.ensures.marks;
   at = c.in_ok-lists.ensures.at;
   idle = c.in_ok-lists.ensures.idle;
+  kept_size = ap (λ (ks : List Kept). length ks) (c.in_ok-kept.ensures.items_if_clones_equal (λ y e. e)) ∙ length-replicate _ _ ∙ c.node_count.ensures.count;
+  kept = λ later. absurd (omega (arith, later));
   within = omega arith;
   work = sym (no-round g.U.Updater.answer c.args.frame.program.now c.args.frame.graph.now (new_arcs c.args.frame) (old_arcs c.args.frame));
   few = omega arith;
   calls = omega arith;
 }
+
+pub loop-round-preserved : goal.loop-round-preserved
+loop-round-preserved g c =
+    let kept = c.loop-round.kept in
+    let size : length c.run_one.new.kept ≡ kept.len = omega (arith, c.run_one.auto.kept, ap (λ (ks : List Kept). length ks) c.deref_mut.ensures.value, kept.ok) in
+    let same = with_items_is kept c.run_one.new.kept size in
+    record {
+      rounds = c.in_ok-work.ensures.history;
+      at = c.in_ok-work.ensures.at;
+      idle = c.in_ok-work.ensures.idle;
+      kept_size = ap (λ (ks : List Kept). length ks) same ∙ c.run_one.ensures.kept_size;
+      kept = λ later. kept-next g.U.Updater.answer c.args.frame c.loop-round.round c.run_one.new.kept (with_items kept c.run_one.new.kept).items same c.in_ok-work.ensures.kept;
+      within = omega arith;
+      work = omega (arith, c.loop-round.invariant.work, c.in_ok-work.ensures.work);
+      few = omega (arith, c.loop-round.invariant.few, c.in_ok-work.ensures.few);
+      calls = omega (arith, c.loop-round.invariant.calls, c.in_ok-work.ensures.calls);
+    }
 
 pub returns-clause-run : goal.returns-clause-run
 returns-clause-run g c =

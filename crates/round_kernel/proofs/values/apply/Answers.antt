@@ -1,4 +1,4 @@
-use Rattle.std.proofs.Common.{◌≤◌, ◌∙◌, ◌+◌, List, length, length-set, get_or, take, set, refl, sym, ap, subst, arith}
+use Rattle.std.proofs.Common.{◌≤◌, ◌∙◌, ◌+◌, List, length, length-set, get_or, take, refl, sym, ap, subst, arith}
 use Rattle.graph_model.specs.declared.value.Val.{Val}
 use Rattle.graph_model.specs.declared.value.Val.TheVariants.{Nil}
 use Rattle.round_kernel.specs.declared.history.Change.{Change}

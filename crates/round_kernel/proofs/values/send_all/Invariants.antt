@@ -1,4 +1,4 @@
-use Rattle.std.proofs.Common.{◌≡◌, ◌<◌, ℕ, true, length, get_or}
+use Rattle.std.proofs.Common.{◌≡◌, ◌<◌, ℕ, length, get_or}
 use Rattle.vertex_lang.specs.Expressions.{sent_by}
 use Rattle.vertex_lang.specs.Rounds.{value_at}
 use Rattle.round_kernel.proofs.values.send_all.Given as goal
