@@ -1,0 +1,82 @@
+"""What this bench runs, and the bounds that it holds the program to."""
+
+from dataclasses import dataclass
+
+ALL = ("hops", "dist", "wcc", "pagerank")
+SPLITS = {"auto": "-auto", "every 1": "-every-1"}
+
+
+@dataclass(frozen=True)
+class Bound:
+    """A side's processor seconds, or its peak memory in MB, is at most so many times that of another side."""
+
+    side: str
+    measure: str
+    factor: float
+    other: str
+
+    def text(self):
+        name = {"seconds": "", "peak": "memory "}[self.measure]
+        return f"{name}{self.factor:g} × {self.other}"
+
+
+@dataclass(frozen=True)
+class Case:
+    """Sides that print the same: those of the program by name, with their words, and the C++ programs."""
+
+    name: str
+    program: str
+    workload: str
+    ours: dict
+    bounds: tuple
+    peers: tuple = ("plain", "scratch", "histories-plain", "histories")
+    rounds: int = 0
+
+
+def script(program, split="", *more):
+    return ("--script", program + SPLITS.get(split, "") + ".gv", *more)
+
+
+def shared(name, program, factor, *more):
+    """A run of all views as one segment, beside the same algorithm in plain C++."""
+    bounds = (Bound("surge", "seconds", factor, "histories-plain"), *more)
+    return Case(name, program, name, {"surge": script(program)}, bounds)
+
+
+def disjoint(program):
+    """Views without a common edge, where nothing can be shared: split auto has to find that out."""
+    ours = {f"split {split}": script(program, split) for split in SPLITS}
+    bound = Bound("split auto", "seconds", 1.1, "split every 1")
+    return Case("disjoint", program, "disjoint", ours, (bound,), ("plain", "scratch"))
+
+
+def turned(program):
+    """As many segments as views, one finished after the other, or all open at once."""
+    ours = {"split every 1": script(program, "every 1"), "--turns 7": script(program, "every 1", "--turns", "7")}
+    bound = Bound("--turns 7", "peak", 1.5, "split every 1")
+    return Case("turns", program, "windows-mid", ours, (bound,), (), rounds=1)
+
+
+def sample():
+    ours = {"surge": ("--sample", "1", "--mode", "summary")}
+    return Case("sample", "dist", "", ours, (Bound("surge", "seconds", 3, "plain"),), ("plain",), rounds=30)
+
+
+def all_cases():
+    factors = {"hops": 2, "dist": 3, "wcc": 2, "pagerank": 2}
+    by_scratch = Bound("surge", "seconds", 1.5, "scratch")
+    by_memory = Bound("surge", "peak", 3, "histories-plain")
+    yield sample()
+    for program in ALL:
+        yield shared("windows-mid", program, factors[program])
+    for program in ALL:
+        yield shared("windows-fine", program, factors[program], *([by_scratch] if program == "hops" else []))
+    for program in ("hops", "dist", "wcc"):
+        yield shared("long-path", program, 3)
+    yield shared("ordered-path", "wcc", 3)
+    for program in ("hops", "dist", "wcc"):
+        yield disjoint(program)
+    for program in ("hops", "pagerank"):
+        yield turned(program)
+    for program in ("hops", "dist", "wcc"):
+        yield shared("windows-large", program, factors[program], by_memory)
