@@ -1,6 +1,5 @@
 //! What bench/diff_join/main.rt.txt does, in plain Rust: the two sides as hash maps of lists, the products that wait in a
-//! BTreeMap by time and record, the inserts alone with a sorted list that is copied. Before each step it looks through the
-//! times of the earlier ones, as the other side does.
+//! BTreeMap by time and record, the inserts alone with a sorted list.
 
 use std::collections::{BTreeMap, HashMap};
 
@@ -51,14 +50,8 @@ fn right_time(i: u32) -> Time {
     (1_000_000 - i, i)
 }
 
-/// Whether no earlier time is at or above this one.
-fn may_step(times: &[Time], t: Time) -> bool {
-    !times.iter().any(|s| t.0 <= s.0 && t.1 <= s.1)
-}
-
 #[derive(Default)]
 struct Join {
-    times: Vec<Time>,
     left: Side,
     right: Side,
     kept: BTreeMap<(Time, (u32, u32)), i64>,
@@ -75,8 +68,6 @@ impl Join {
 
     /// Feeds a row, and answers the products of the time.
     fn step(&mut self, t: Time, row: Option<Row>) -> Vec<((u32, u32), i64)> {
-        assert!(may_step(&self.times, t));
-        self.times.push(t);
         let later = |s: Time| (s.0.max(t.0), s.1.max(t.1));
         match row {
             Some(Row::Left(key, a)) => {
@@ -142,17 +133,11 @@ fn insert_all(trace: &mut Vec<((u32, u32, Time), i64)>, changes: &[(Time, Option
     }
 }
 
-/// How many of some steps, told by their numbers, were at a time that no earlier step is at or above.
-fn looks(times: &[Time], from: usize, to: usize) -> u64 {
-    (from..to).filter(|i| may_step(&times[..*i], times[*i])).count() as u64
-}
-
-fn measured(met: u32) -> (u64, [u128; 8]) {
+fn measured(met: u32) -> (u64, [u128; 5]) {
     let rows = loaded(met);
     let more: Vec<(Time, Option<Row>)> = (ROWS..ROWS + STEPS).map(|i| (right_time(i), Some(Row::Right(1, i)))).collect();
     let nothing: Vec<(Time, Option<Row>)> = (ROWS + STEPS..ROWS + 2 * STEPS).map(|i| (right_time(i), None)).collect();
     let mut join = Join::default();
-    join.step((0, 0), None);
     let start = processor_time();
     let first = steps(&mut join, &rows);
     let load = since(start);
@@ -175,16 +160,8 @@ fn measured(met: u32) -> (u64, [u128; 8]) {
     insert_all(&mut trace, &more);
     let inserts = since(start);
     assert!(trace.len() == (ROWS + STEPS) as usize && join.kept.len() == (met * met + 3 * STEPS) as usize);
-    let (first_step, kind) = (2 * ROWS as usize + 5, STEPS as usize);
-    let mut free = 0u64;
-    let mut looked = [0u128; 3];
-    for (number, time) in looked.iter_mut().enumerate() {
-        let start = processor_time();
-        free += looks(&join.times, first_step + number * kind, first_step + (number + 1) * kind);
-        *time = since(start);
-    }
-    let made = first.wrapping_add(second).wrapping_add(third).wrapping_add(fourth);
-    (made.wrapping_add(free), [load, steps_time, inserts, empty, due, looked[0], looked[1], looked[2]])
+    let sum = first.wrapping_add(second).wrapping_add(third).wrapping_add(fourth);
+    (sum, [load, steps_time, inserts, empty, due])
 }
 
 fn main() {
@@ -192,8 +169,7 @@ fn main() {
     let (sum_more, many) = measured(316);
     println!("made {sum} {sum_more}");
     for (times, count) in [(few, 10_000), (many, 100_000)] {
-        let names = ["load", "steps", "inserts", "empty", "due", "looks_of_steps", "looks_of_empty", "looks_of_due"];
-        for (name, time) in names.iter().zip(times) {
+        for (name, time) in ["load", "steps", "inserts", "empty", "due"].iter().zip(times) {
             println!("{name}_{count} {time}");
         }
     }
