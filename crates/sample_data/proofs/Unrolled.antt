@@ -1,5 +1,5 @@
 -- One line more of a text, and the lines that are left.
-use Rattle.std.proofs.Common.{◌≡◌, ◌∙◌, ◌<◌, ◌+◌, ◌-◌, ◌++◌, ℕ, zero, suc, List, [], refl, sym, ap, ap₂, append_assoc, append-nil, arith}
+use Rattle.std.proofs.Common.{◌≡◌, ◌∙◌, ◌<◌, ◌+◌, ◌-◌, ◌++◌, ℕ, zero, suc, List, [], refl, sym, ap, append_assoc, append-nil, arith}
 use Rattle.sample_data.specs.Sample.{ids_from, id_line, edges_drawn, edge_drawn, state_after}
 
 ids_more : (first n : ℕ) → 0 < n → ids_from first n ≡ id_line first ++ ids_from (first + 1) (n - 1)

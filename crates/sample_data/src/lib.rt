@@ -5,8 +5,9 @@
 //! them. Its model is `specs/Sample.antt`: the texts as functions of the number. It promises exactly these bytes.
 #![tactic(auto)]
 
-ghost use Rattle.std.specs.Prelude.{◌≡◌, ◌<◌, ◌≤◌, ◌+◌, ◌++◌, IfOk, OnOk};
-ghost use Rattle.sample_data.specs.Sample.{nodes_text, edges_text, script_text, id_line, ids_from, edge_drawn, edges_drawn, edge_line, state_after};
+ghost use Rattle.std.specs.Prelude.{◌≡◌, ◌<◌, ◌≤◌, ◌+◌, ◌++◌, [], ◌∷◌, IfOk, OnOk};
+ghost use Rattle.std.specs.Fmt.{decimal};
+ghost use Rattle.sample_data.specs.Sample.{nodes_text, edges_text, script_text, ids_from, edge_drawn, edges_drawn, edge_line, state_after};
 
 use draws::Draws;
 use std::alloc::Global;
@@ -25,27 +26,48 @@ pub fn nodes(alloc: Global) -> Result<Vec<u8>, NoMemory>
     ensures { IfOk result (λ bytes. bytes.items ≡ nodes_text) }
 {
     let mut text = Vec::from_slice(alloc, b"id\n")?;
-    push_ids(alloc, &mut text)?;
+    push_ids(&mut text)?;
     Ok(text)
 }
 
 // Adds a line for each id.
-fn push_ids(alloc: Global, text: &mut Vec<u8>) -> Result<(), NoMemory>
+fn push_ids(text: &mut Vec<u8>) -> Result<(), NoMemory>
     ensures { OnOk result (text.new.items ≡ text.old.items ++ ids_from 1 2_000) }
 {
     let mut left = NODES;
     while left > 0 {
-        push_id(alloc, text, NODES + 1 - left)?;
+        push_field(text, NODES + 1 - left, b'\n')?;
         left -= 1;
     }
     Ok(())
 }
 
-fn push_id(alloc: Global, text: &mut Vec<u8>, id: u32) -> Result<(), NoMemory>
-    ensures { OnOk result (text.new.items ≡ text.old.items ++ id_line id) }
+// Adds the digits of a number, and the byte behind them.
+fn push_field(text: &mut Vec<u8>, number: u32, end: u8) -> Result<(), NoMemory>
+    ensures { OnOk result (text.new.items ≡ text.old.items ++ (decimal number ++ end ∷ [])) }
 {
-    let line = format!(in alloc; "{id}\n")?;
-    text.extend_from_slice(line.as_bytes())?;
+    push_decimal(text, number)?;
+    text.push(end)?;
+    Ok(())
+}
+
+// Adds the digits of a number.
+fn push_decimal(text: &mut Vec<u8>, number: u32) -> Result<(), NoMemory>
+    ensures { OnOk result (text.new.items ≡ text.old.items ++ decimal number) }
+{
+    if number < 10 {
+        return push_digit(text, number);
+    }
+    push_decimal(text, number / 10)?;
+    push_digit(text, number % 10)
+}
+
+// Adds a digit.
+fn push_digit(text: &mut Vec<u8>, digit: u32) -> Result<(), NoMemory>
+    requires { digit < 10 }
+    ensures { OnOk result (text.new.items ≡ text.old.items ++ (48 + digit) ∷ []) }
+{
+    text.push(b'0' + digit as u8)?;
     Ok(())
 }
 
@@ -55,24 +77,24 @@ pub fn edges(alloc: Global, number: u64) -> Result<Vec<u8>, NoMemory>
     ensures { IfOk result (λ bytes. bytes.items ≡ edges_text number) }
 {
     let mut text = Vec::from_slice(alloc, b"src,dst,w:int,t:int\n")?;
-    push_edges(alloc, &mut text, Draws::new(number))?;
+    push_edges(&mut text, Draws::new(number))?;
     Ok(text)
 }
 
 // Adds all edges.
-fn push_edges(alloc: Global, text: &mut Vec<u8>, draws: Draws) -> Result<(), NoMemory>
+fn push_edges(text: &mut Vec<u8>, draws: Draws) -> Result<(), NoMemory>
     ensures { OnOk result (text.new.items ≡ text.old.items ++ edges_drawn 10_000 draws.state) }
 {
     let mut draws = draws;
     let mut left = EDGES;
     while left > 0 {
-        push_edge(alloc, text, &mut draws)?;
+        push_edge(text, &mut draws)?;
         left -= 1;
     }
     Ok(())
 }
 
-fn push_edge(alloc: Global, text: &mut Vec<u8>, draws: &mut Draws) -> Result<(), NoMemory>
+fn push_edge(text: &mut Vec<u8>, draws: &mut Draws) -> Result<(), NoMemory>
     ensures text { OnOk result (text.new.items ≡ text.old.items ++ edge_drawn draws.old.state) }
     ensures state { draws.new.state ≡ state_after 4 draws.old.state }
 {
@@ -80,11 +102,10 @@ fn push_edge(alloc: Global, text: &mut Vec<u8>, draws: &mut Draws) -> Result<(),
     let destination = 1 + draws.draw(NODES);
     let weight = 1 + draws.draw(WEIGHTS);
     let time = draws.draw(TIMES);
-    push_line(alloc, text, source, destination, weight, time)
+    push_line(text, source, destination, weight, time)
 }
 
 fn push_line(
-    alloc: Global,
     text: &mut Vec<u8>,
     source: u32,
     destination: u32,
@@ -93,9 +114,10 @@ fn push_line(
 ) -> Result<(), NoMemory>
     ensures { OnOk result (text.new.items ≡ text.old.items ++ edge_line source destination weight time) }
 {
-    let line = format!(in alloc; "{source},{destination},{weight},{time}\n")?;
-    text.extend_from_slice(line.as_bytes())?;
-    Ok(())
+    push_field(text, source, b',')?;
+    push_field(text, destination, b',')?;
+    push_field(text, weight, b',')?;
+    push_field(text, time, b'\n')
 }
 
 /// The script of each sample. The error is want of memory.

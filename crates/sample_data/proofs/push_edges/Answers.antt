@@ -1,5 +1,5 @@
-use Rattle.std.proofs.Common.{◌≡◌, ◌∙◌, ◌<◌, ◌++◌, ◌-◌, ℕ, List, subst, ap, sym, arith}
-use Rattle.sample_data.specs.Sample.{edges_drawn, edge_drawn, state_after}
+use Rattle.std.proofs.Common.{◌≡◌, ◌∙◌, ◌<◌, ◌++◌, ◌-◌, ℕ, ap, sym, arith}
+use Rattle.sample_data.specs.Sample.{edges_drawn}
 use Rattle.sample_data.proofs.Unrolled.{edges_moved, edges_left}
 use Rattle.sample_data.proofs.push_edges.Goals as goal
 

@@ -1,5 +1,5 @@
-use Rattle.std.proofs.Common.{◌≡◌, ◌∙◌, ◌<◌, ◌+◌, ◌++◌, ◌-◌, ℕ, List, subst, ap, sym, arith}
-use Rattle.sample_data.specs.Sample.{ids_from, id_line}
+use Rattle.std.proofs.Common.{◌≡◌, ◌∙◌, ◌<◌, ◌+◌, ◌++◌, ◌-◌, ℕ, ap, sym, arith}
+use Rattle.sample_data.specs.Sample.{ids_from}
 use Rattle.sample_data.proofs.Unrolled.{ids_moved, ids_left}
 use Rattle.sample_data.proofs.push_ids.Goals as goal
 
@@ -9,10 +9,10 @@ loop-left-preserved c =
     let few = c.loop-left.invariant.few in
     let same : 2_001 - c.loop-left.left ≡ 2_000 + 1 - c.loop-left.left = omega arith in
     let next : (2_001 - c.loop-left.left) + 1 ≡ 2_001 - (c.loop-left.left - 1) = omega (arith, some, few) in
-    let rest = ids_moved c.loop-left.text.items c.push_id.new.text.items (c.args.text.now.items ++ ids_from 1 2_000) (2_001 - c.loop-left.left) c.loop-left.left some c.in_ok-push_id.ensures c.loop-left.invariant.pushed in
+    let rest = ids_moved c.loop-left.text.items c.push_field.new.text.items (c.args.text.now.items ++ ids_from 1 2_000) (2_001 - c.loop-left.left) c.loop-left.left some c.in_ok-push_field.ensures c.loop-left.invariant.pushed in
     record {
       few = omega (arith, few);
-      pushed = ap (λ (x : ℕ). c.push_id.new.text.items ++ ids_from x (c.loop-left.left - 1)) (sym next) ∙ rest;
+      pushed = ap (λ (x : ℕ). c.push_field.new.text.items ++ ids_from x (c.loop-left.left - 1)) (sym next) ∙ rest;
     }
 
 pub returns : goal.returns

@@ -1,4 +1,4 @@
-use Rattle.std.proofs.Common.{◌≡◌, ◌≤◌, ◌+◌, ◌-◌, ◌++◌}
+use Rattle.std.proofs.Common.{◌≡◌, ◌≤◌, ◌-◌, ◌++◌}
 use Rattle.sample_data.specs.Sample.{ids_from}
 use Rattle.sample_data.proofs.push_ids.Given as goal
 
