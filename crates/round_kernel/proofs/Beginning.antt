@@ -35,8 +35,8 @@ use Rattle.round_kernel.proofs.Calming.{none-marked}
 -- ---- no view before
 
 -- in no view nothing changes
-pub none-history : (answer : Answer) (p : Program) (graph : GraphData) (rounds : ℕ) (h : History) → h.changes ≡ [] → h.marks ≡ [] → IsHistory answer p graph None rounds h
-none-history answer p graph rounds h ec em = record {
+pub none-history : (answer : Answer) (p : Program) (graph : GraphData) (rounds : ℕ) (h : History) → h.changes ≡ [] → h.marks ≡ [] → h.starts ≡ [] → IsHistory answer p graph None rounds h
+none-history answer p graph rounds h ec em es = record {
   changes = λ k low. subst (λ (cs : List Change). HasChanges (length graph.ids) [] [] cs) (sym (ap (λ (xs : List (List Change)). get_or xs k []) ec)) (record {
     within = All-nil (λ (c : Change). c.node.0 < length graph.ids);
     values = All-nil (λ (c : Change). c.value ≡ value_at [] c.node.0);
@@ -46,6 +46,7 @@ none-history answer p graph rounds h ec em = record {
     within = All-nil (λ (n : NodeNo). n.0 < length graph.ids);
     listed = λ v under. sym (none-marked answer p graph v (k + 1));
   });
+  starts = inl es;
 }
 
 -- ---- arcs of edges that are told

@@ -14,6 +14,7 @@ use Rattle.vertex_lang.specs.Expressions.{Answer, sent_by, send_words}
 use Rattle.vertex_lang.specs.Rounds.{value_at, carried, lone}
 use Rattle.lone_work.specs.Inputs.{got_values}
 use Rattle.round_kernel.specs.Sides.{in_view, arcs_in, brings, all_brought, row_of, IsRound}
+use Rattle.round_kernel.specs.Telling.{sent_in}
 
 sent-cons : (v w : Val) (vs ws : List Val) → v ≡ w → filter is_sent vs ≡ filter is_sent ws → filter is_sent (v ∷ vs) ≡ filter is_sent (w ∷ ws)
 sent-cons v w vs ws e h = ap (λ (x : Val). filter is_sent (x ∷ vs)) e ∙ with-one w where
@@ -65,12 +66,15 @@ module _ (answer : Answer) (p : Program) (graph : GraphData) (all : List Arc) (e
     | inr are ↦ ap (λ n. sent_by p graph u v n e) (are u low)
   ]
 
+  -- it is that of the round
+  pub sent-is : (u e : ℕ) → u < length graph.ids → sent_by p graph u (value_at values u) (get_or degrees u 0) e ≡ sent_in answer p graph (arcs_in all edges) r u e
+  sent-is u e low = counted-as u e (value_at values u) low ∙ ap (λ (vs : List Val). sent_by p graph u (value_at vs u) (outdeg (arcs_in all edges) u) e) is.values_are
+
   alike : (a : Arc) → IsArc graph a → AreAlike (in_view edges) (brings p graph edges degrees values) carries a
   unfolding carries
   alike a arc = record {
     picked = λ e. chosen (in_view edges a) (sent_by p graph a.tail.0 (value_at values a.tail.0) (get_or degrees a.tail.0 0) a.edge.0) Nil e
-        ∙ counted-as a.tail.0 a.edge.0 (value_at values a.tail.0) arc.tail
-        ∙ ap (λ (vs : List Val). sent_by p graph a.tail.0 (value_at vs a.tail.0) (outdeg (arcs_in all edges) a.tail.0) a.edge.0) is.values_are;
+        ∙ sent-is a.tail.0 a.edge.0 arc.tail;
     left = λ e. left-out (in_view edges a) (sent_by p graph a.tail.0 (value_at values a.tail.0) (get_or degrees a.tail.0 0) a.edge.0) Nil e;
   }
 

@@ -31,7 +31,7 @@ use Rattle.round_kernel.specs.declared.history.Change.{Change}
 use Rattle.round_kernel.specs.declared.history.History.{History}
 use Rattle.round_kernel.specs.declared.round.Frame.{Frame}
 use Rattle.round_kernel.specs.Sides.{arcs_in}
-use Rattle.round_kernel.specs.Histories.{IsHistory, HasNodes, HasChanges, is_changed}
+use Rattle.round_kernel.specs.Histories.{IsHistory, AreStarts, HasNodes, HasChanges, is_changed}
 use Rattle.round_kernel.specs.Rounds.{old_view}
 use Rattle.round_kernel.specs.Frames.{IsFrame, count_in, lone_at, new_arcs, old_arcs, counted_at, marked_at}
 use Rattle.round_kernel.specs.Steps.{HasRounds, outcome_of}
@@ -119,8 +119,9 @@ module _ (answer : Answer) (f : Frame) where
       quiet-old : (k : ℕ) → r < f.limit → r ≤ k + 1 → f.first ≡ false → lone answer f.program.now f.graph.now (arcs_in f.rows.now.by_head f.old.now) (k + 1) ≡ lone answer f.program.now f.graph.now (arcs_in f.rows.now.by_head f.old.now) k
       quiet-old k less low one = again answer f.program.now f.graph.now (arcs_in f.rows.now.by_head f.old.now) (r - 1) k (end.old less one) (omega (arith, low))
 
-      pub run-history : (changes : List (List Change)) → ((k : ℕ) → get_or changes k [] ≡ get_or h.changes k []) → IsHistory answer f.program.now f.graph.now (Some (new_arcs f)) f.limit (record { changes = changes; marks = h.marks })
-      run-history changes places = record {
+      pub run-history : (changes : List (List Change)) → ((k : ℕ) → get_or changes k [] ≡ get_or h.changes k []) → (starts : List Val) → AreStarts f.program.now f.graph.now starts
+          → IsHistory answer f.program.now f.graph.now (Some (new_arcs f)) f.limit (record { changes = changes; marks = h.marks; starts = starts })
+      run-history changes places starts are = record {
         changes = λ k low. subst (λ (cs : List Change). HasChanges (count_in f) (lone_at answer f k) (lone_at answer f (k + 1)) cs) (sym (places k)) (elim (cases_lt k r) [
           | inl less ↦ rounds.changes k less
           | inr most ↦ subst (λ (cs : List Change). HasChanges (count_in f) (lone_at answer f k) (lone_at answer f (k + 1)) cs) (sym (get_or-eq_default h.changes [] (omega (arith, most, rounds.size)))) (no-changes (count_in f) (lone_at answer f k) (lone_at answer f (k + 1)) (quiet-new k (omega arith) (omega arith)))
@@ -132,6 +133,7 @@ module _ (answer : Answer) (f : Frame) where
             listed = λ v under. sym (unmarked-still answer f.program.now f.graph.now (new_arcs f) v k (quiet-new k (omega arith) most));
           })
         ];
+        starts = are;
       }
 
       work-from : (n : ℕ) → r < f.limit → work answer f.program.now f.graph.now (new_arcs f) (old_arcs f) (r + n) ≡ work answer f.program.now f.graph.now (new_arcs f) (old_arcs f) r

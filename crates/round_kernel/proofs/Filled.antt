@@ -1,5 +1,5 @@
 -- When a round begins, all who may be active or counted in it wait.
-use Rattle.std.proofs.Common.{◌≡◌, ◌∙◌, ◌<◌, ◌+◌, ◌-◌, [], suc, sym, ap, subst, refl, ℕ, Bool, true, false, List, Some, None, get_or, arith, inl, inr}
+use Rattle.std.proofs.Common.{◌≡◌, ◌∙◌, ◌<◌, ◌≤◌, ◌+◌, ◌-◌, [], suc, sym, ap, subst, refl, ℕ, Bool, true, false, List, Some, None, get_or, arith, inl, inr}
 use Rattle.std.specs.Prelude.{All, ◌⊎◌, ◌||◌}
 use Rattle.std.proofs.lemmas.Bool.{cases_Bool}
 use Rattle.std.proofs.lemmas.List.Sorted.{All-permutation, IsPermutation-sym}
@@ -9,14 +9,15 @@ use Rattle.vertex_lang.specs.declared.program.Program.{Program}
 use Rattle.graph_model.specs.GraphData.{GraphData}
 use Rattle.vertex_lang.specs.Expressions.{Answer}
 use Rattle.vertex_lang.specs.Rounds.{value_at, lone}
-use Rattle.lone_work.specs.Work.{node_active, node_marked, touched_before, lone_in}
+use Rattle.lone_work.specs.Work.{node_active, node_touched, node_marked, touched_before, lone_in}
+use Rattle.lone_work.specs.WorkLaws.{untouched-value}
 use Rattle.round_kernel.specs.declared.history.Change.{Change}
 use Rattle.round_kernel.specs.declared.queue.Queue.{Queue}
 use Rattle.round_kernel.specs.declared.round.Frame.{Frame}
 use Rattle.round_kernel.specs.declared.round.Lists.{Lists}
 use Rattle.round_kernel.specs.Sides.{arcs_in, AreDegrees, IsTurned}
 use Rattle.round_kernel.specs.Histories.{HasChanges, is_changed, is_listed}
-use Rattle.round_kernel.specs.Queues.{waits, StillWait, IsHeard, DegreeAgrees, AllHear}
+use Rattle.round_kernel.specs.Queues.{waits, StillWait, IsHeard, DegreeAgrees, ValuesAgree, AllHear}
 use Rattle.round_kernel.specs.Rounds.{old_view}
 use Rattle.round_kernel.specs.Frames.{IsFrame, StandAt, AreCalm, AreShown, count_in, lone_at, new_arcs, old_arcs, was_touched_at, marked_before}
 use Rattle.round_kernel.proofs.Waiting.{clash}
@@ -26,6 +27,32 @@ use Rattle.round_kernel.proofs.Calming.{calm-by}
 
 degrees-at : (p : Program) (graph : GraphData) (arcs : List Arc) (degrees ds : List ℕ) → ds ≡ degrees → AreDegrees p graph arcs degrees → AreDegrees p graph arcs ds
 degrees-at p graph arcs degrees ds e h = subst (λ (xs : List ℕ). AreDegrees p graph arcs xs) (sym e) h
+
+module _ (answer : Answer) (f : Frame) (r : ℕ) where
+  untouched-by : (first : Bool) (k v : ℕ) → first ≡ false → (first || touched_before answer f.program.now f.graph.now (new_arcs f) (old_view first f.rows.now.by_head f.old.now) v (suc k)) ≡ false
+      → node_touched answer f.program.now f.graph.now (new_arcs f) (Some (arcs_in f.rows.now.by_head f.old.now)) v k ≡ false
+  untouched-by true k v one e = absurd (clash true one refl)
+  untouched-by false k v one e = e
+
+  -- a node that wasn't touched before this round has the same values in both views
+  pub untouched-agree : (lists : Lists) (touched : List Bool) (on ob nn nb : List Val) → 0 < r → StandAt answer f r (was_touched_at answer f r) lists
+      → touched ≡ lists.touched.items → on ≡ lists.old_now.items → ob ≡ lists.old_before.items → nn ≡ lists.new_now.items → nb ≡ lists.new_before.items
+      → f.first ≡ false → (v : ℕ) → v < count_in f → get_or touched v false ≡ false → ValuesAgree on ob nn nb v
+  untouched-agree lists touched on ob nn nb later u et eon eob enn enb one v low off = (
+    ap (λ (vs : List Val). value_at vs v) (eon ∙ (u.old_now one).values_are) ∙ sym (same r (omega (arith, at))) ∙ sym (ap (λ (vs : List Val). value_at vs v) (enn ∙ u.new_now.values_are)),
+    ap (λ (vs : List Val). value_at vs v) (eob ∙ (u.old_before one).values_are) ∙ sym (same (r - 1) (omega (arith, at))) ∙ sym (ap (λ (vs : List Val). value_at vs v) (enb ∙ u.new_before.values_are)),
+  ) where
+    at : r ≡ suc (r - 1)
+    at = omega (arith, later)
+
+    was : was_touched_at answer f r v ≡ false
+    was = sym (u.touched_are v low) ∙ sym (ap (λ (bits : List Bool). get_or bits v false) et) ∙ off
+
+    none : node_touched answer f.program.now f.graph.now (new_arcs f) (Some (arcs_in f.rows.now.by_head f.old.now)) v (r - 1) ≡ false
+    none = untouched-by f.first (r - 1) v one (ap (λ n. was_touched_at answer f n v) (sym at) ∙ was)
+
+    same : (n : ℕ) → n ≤ (r - 1) + 1 → value_at (lone_at answer f n) v ≡ value_at (lone answer f.program.now f.graph.now (arcs_in f.rows.now.by_head f.old.now) n) v
+    same n within = untouched-value answer f.program.now f.graph.now (new_arcs f) (arcs_in f.rows.now.by_head f.old.now) v (r - 1) n low none within
 
 module _ (answer : Answer) (f : Frame) (r : ℕ) (frame : IsFrame answer f f.limit) where
   -- ---- at round 0

@@ -44,14 +44,14 @@ not-told false e = absurd cc
 pub same-told : (b : Bool) (x y : Val) → b ≡ not (same_value x y) → b ≡ false → x ≡ y
 same-told b x y e f = values-exact.one x y (not-told (same_value x y) (sym e ∙ f))
 
--- where the edge is in both views or in neither, and the tail has the same value and degree, an arc brings the same
+-- where the edge is in both views or in neither, and the tail sends the same along it, an arc brings the same
 pub brings-same : (p : Program) (graph : GraphData) (edges others : List Bool) (degrees counts : List ℕ) (values vs : List Val) (a : Arc)
-    → in_view edges a ≡ in_view others a → get_or degrees a.tail.0 0 ≡ get_or counts a.tail.0 0 → value_at values a.tail.0 ≡ value_at vs a.tail.0
+    → in_view edges a ≡ in_view others a
+    → sent_by p graph a.tail.0 (value_at values a.tail.0) (get_or degrees a.tail.0 0) a.edge.0 ≡ sent_by p graph a.tail.0 (value_at vs a.tail.0) (get_or counts a.tail.0 0) a.edge.0
     → brings p graph edges degrees values a ≡ brings p graph others counts vs a
-brings-same p graph edges others degrees counts values vs a ee ed ev =
+brings-same p graph edges others degrees counts values vs a ee es =
     ap (λ (b : Bool). if b then sent_by p graph a.tail.0 (value_at values a.tail.0) (get_or degrees a.tail.0 0) a.edge.0 else Nil) ee
-    ∙ ap (λ (v : Val). if in_view others a then sent_by p graph a.tail.0 v (get_or degrees a.tail.0 0) a.edge.0 else Nil) ev
-    ∙ ap (λ (n : ℕ). if in_view others a then sent_by p graph a.tail.0 (value_at vs a.tail.0) n a.edge.0 else Nil) ed
+    ∙ ap (λ (m : Val). if in_view others a then m else Nil) es
 
 -- ---- lists that are seen to be different multisets
 

@@ -13,6 +13,8 @@ pub mod Copies
 pub mod Stepping
 pub mod Calming
 pub mod Grouping
+pub mod Counting
+pub mod Placing
 pub mod Filled
 pub mod Rounding
 pub mod Ending
@@ -22,3 +24,10 @@ pub mod Gathered
 pub mod Marking
 pub mod Kept
 pub mod KeptRounds
+pub mod Feeding
+pub mod Stillness
+pub mod Flagging
+pub mod Numbered
+pub mod Spanning
+pub mod Picked
+pub mod Proper

@@ -55,7 +55,7 @@ mixed true true b h = refl
 mixed true false b h = refl
 mixed false m b h = sym (h refl)
 
-not-told : (b : Bool) → not b ≡ true → b ≡ false
+pub not-told : (b : Bool) → not b ≡ true → b ≡ false
 not-told true e = absurd (clash false refl e)
 not-told false e = refl
 

@@ -9,7 +9,7 @@ use Rattle.graph_model.specs.declared.value.Val.TheVariants.{Nil}
 use Rattle.graph_model.specs.GraphData.{GraphData}
 use Rattle.vertex_lang.specs.declared.program.Program.{Program}
 use Rattle.vertex_lang.specs.Expressions.{sent_by, send_words, edge_value}
-use Rattle.vertex_lang.specs.Ignoring.{IgnoresEdge}
+use Rattle.vertex_lang.specs.Ignoring.{IgnoresEdge, IgnoresOutdeg}
 use Rattle.vertex_lang.specs.Rounds.{value_at}
 use Rattle.round_kernel.specs.declared.history.Change.{Change}
 use Rattle.round_kernel.specs.Histories.{is_changed, HasChanges, AreChanged}
@@ -24,6 +24,13 @@ sent-at alike p graph degrees ds values vs sent ss ed ev es h =
 -- any edge tells
 any-edge : (p : Program) (graph : GraphData) (u d e f : ℕ) (v : Val) → IgnoresEdge p.send → sent_by p graph u v d e ≡ sent_by p graph u v d f
 any-edge p graph u d e f v h = h (send_words graph u v d e) (edge_value graph e) (edge_value graph f)
+
+-- messages that don't depend on how many arcs leave a node are the same in another view
+pub sent-elsewhere : (alike : Bool) (p : Program) (graph : GraphData) (degrees others : List ℕ) (values sent : List Val) → IgnoresOutdeg p.send → AreSent alike p graph degrees values sent → AreSent alike p graph others values sent
+sent-elsewhere alike p graph degrees others values sent ignores h = λ e. (
+  (h e).0,
+  λ u f low. (h e).1 u f low ∙ ignores (send_words graph u (value_at values u) 0 f) (get_or degrees u 0) (get_or others u 0),
+)
 
 module _ (alike : Bool) (p : Program) (graph : GraphData) (degrees : List ℕ) where
   -- no message yet, and one more

@@ -1,14 +1,14 @@
 -- What a history says of the plain run of a view.
-use Rattle.std.specs.Prelude.{◌≡◌, ◌<◌, ◌+◌, ◌==◌, ℕ, Bool, not, if◌then◌else◌, List, [], ◌∷◌, length, get_or, All, Option}
+use Rattle.std.specs.Prelude.{◌≡◌, ◌<◌, ◌+◌, ◌==◌, ◌⊎◌, ℕ, Bool, not, if◌then◌else◌, List, [], ◌∷◌, length, map, get_or, All, Option}
 use Rattle.std.specs.List.{list_any}
 use Rattle.graph_model.specs.declared.number.NodeNo.{NodeNo}
 use Rattle.graph_model.specs.declared.value.Val.{Val}
 use Rattle.graph_model.specs.GraphData.{GraphData}
 use Rattle.vertex_lang.specs.declared.arc.Arc.{Arc}
 use Rattle.vertex_lang.specs.declared.program.Program.{Program}
-use Rattle.vertex_lang.specs.Expressions.{Answer}
+use Rattle.vertex_lang.specs.Expressions.{Answer, start_of}
 use Rattle.vertex_lang.specs.Lone.{same_value}
-use Rattle.vertex_lang.specs.Rounds.{value_at}
+use Rattle.vertex_lang.specs.Rounds.{value_at, nodes_of}
 use Rattle.lone_work.specs.Work.{lone_in, node_marked}
 use Rattle.round_kernel.specs.declared.history.Change.{Change}
 use Rattle.round_kernel.specs.declared.history.History.{History}
@@ -37,10 +37,15 @@ pub record AreChanged (start after now : List Val) (changes : List Change) : Typ
   pub size : length now ≡ length start
   pub at : (v : ℕ) → value_at now v ≡ (if is_changed v changes then value_at after v else value_at start v)
 
+-- they are none, or the values with which the nodes start
+abbrev pub AreStarts : Program → GraphData → List Val → Type 0
+AreStarts p graph starts = (starts ≡ []) ⊎ (starts ≡ map (start_of p graph) (nodes_of graph))
+
 -- what is kept of a view, or of none, says what changes from round to round up to this number of rounds
 pub record IsHistory (answer : Answer) (p : Program) (graph : GraphData) (view : Option (List Arc)) (rounds : ℕ) (h : History) : Type 0 where
   pub changes : (k : ℕ) → k < rounds → HasChanges (length graph.ids) (lone_in answer p graph view k) (lone_in answer p graph view (k + 1)) (get_or h.changes k [])
   pub marks : (k : ℕ) → k + 1 < rounds → HasNodes (length graph.ids) (λ v. node_marked answer p graph view v (k + 1)) (get_or h.marks k [])
+  pub starts : AreStarts p graph h.starts
 
 -- ---- how two lists of values differ
 

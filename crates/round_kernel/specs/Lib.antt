@@ -9,3 +9,12 @@ pub mod Frames
 pub mod Steps
 pub mod FilterLaws
 pub mod RowLaws
+pub mod Numbers
+pub mod Links
+pub mod Lives
+pub mod Telling
+pub mod Flags
+pub mod Feeds
+pub mod Aiding
+pub mod Spans
+pub mod Places

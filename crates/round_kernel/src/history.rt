@@ -20,6 +20,8 @@ pub struct Change {
 pub struct History {
     pub changes: List<List<Change>>,
     pub marks: List<List<NodeNo>>,
+    /// The value with which each node starts, which is the same in all views; empty where no view was stepped yet.
+    pub starts: List<Val>,
 }
 
 impl History {
@@ -27,10 +29,12 @@ impl History {
     pub(crate) fn new(alloc: Global) -> History
         ensures changes { result.changes ≡ [] }
         ensures marks { result.marks ≡ [] }
+        ensures starts { result.starts ≡ [] }
     {
         History {
             changes: List::new(alloc),
             marks: List::new(alloc),
+            starts: List::new(alloc),
         }
     }
 

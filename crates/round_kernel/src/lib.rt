@@ -9,13 +9,19 @@
 //! pairs of a version and a round: McSherry, Murray, Isaacs and Isard 2013.)
 #![tactic(auto)]
 
+mod aids;
+mod feed;
 mod history;
+mod live;
 mod message;
+mod numbers;
 mod queue;
 mod round;
 mod rows;
+mod span;
 mod step;
 mod tally;
+mod told;
 mod values;
 mod visit;
 

@@ -1,6 +1,6 @@
 //! What an arc brings in a round of a view.
 
-ghost use Rattle.std.specs.Prelude.{MatchBool, ◌≢◌, ◌≡◌, ◌<◌, ◌^◌, ◌++◌, not, false, List, length, get_or, fold, filter, All, IfOk, OnOk, IsTrue, IsFalse, [], ◌∷◌};
+ghost use Rattle.std.specs.Prelude.{MatchBool, ℕ, ◌≢◌, ◌≡◌, ◌<◌, ◌^◌, ◌++◌, not, false, List, length, get_or, fold, filter, All, IfOk, OnOk, IsTrue, IsFalse, [], ◌∷◌};
 ghost use Rattle.graph_model.specs.declared.value.Val.{Val};
 ghost use Rattle.vertex_lang.specs.Leaves.{IsChecked};
 ghost use Rattle.vertex_lang.specs.Arcs.{IsArc, is_sent};
@@ -10,10 +10,12 @@ ghost use Rattle.graph_model.specs.declared.value.Val.TheVariants.{Nil};
 ghost use Rattle.vertex_lang.specs.Values.{lesser};
 ghost use Rattle.vertex_lang.specs.Rounds.{value_at};
 ghost use Rattle.vertex_lang.specs.Expressions.{sent_by};
-ghost use Rattle.round_kernel.specs.Sides.{in_view, brings, all_brought, AreSent, AreOneView, IsSized, AreLeft};
+ghost use Rattle.round_kernel.specs.Sides.{in_view, brings, all_brought, AreSent, IsSized, AreLeft};
+ghost use Rattle.round_kernel.specs.Telling.{InMovers, AreStill, moves};
 ghost use Rattle.round_kernel.specs.Tallies.{tally_of};
 
 use crate::tally::{Tally, lesser_of};
+use crate::told::Movers;
 use graph_model::{Graph, Val};
 use multisets::are_one_multiset;
 use surge_outside::NoMemory;
@@ -99,14 +101,15 @@ pub(crate) fn tally(program: &Program, graph: &Graph, side: Side<'_>, row: &[Arc
     tally
 }
 
-/// Whether these arcs bring different messages in two rounds, as multisets. It is less work where they are rounds of the same
-/// view.
+/// Whether these arcs bring different messages in two rounds, as multisets, where it is told which nodes may send
+/// something else, and whether one of the arcs may be in one of two views alone.
 pub(crate) fn differ(
     program: &Program,
     graph: &Graph,
     left: Side<'_>,
     right: Side<'_>,
-    same_view: bool,
+    turned: bool,
+    movers: Movers<'_>,
     row: &[Arc],
     scratch: &mut Scratch,
 ) -> Result<bool, NoMemory>
@@ -114,7 +117,9 @@ pub(crate) fn differ(
     requires row { All (IsArc graph.now) row.now }
     requires left { IsSized graph.now left.edges.now left.degrees.now left.values.now }
     requires right { IsSized graph.now right.edges.now right.degrees.now right.values.now }
-    requires same { AreOneView same_view left.edges.now right.edges.now left.degrees.now right.degrees.now }
+    requires movers { (u : ℕ) → u < length graph.now.ids → InMovers movers u }
+    requires still { AreStill program.now graph.now movers left.degrees.now left.values.now right.degrees.now right.values.now }
+    requires turned { turned ≡ false → All (λ a. in_view left.edges.now a ≡ in_view right.edges.now a) row.now }
     requires left_sent { AreSent left.alike program.now graph.now left.degrees.now left.values.now left.sent.now }
     requires right_sent { AreSent right.alike program.now graph.now right.degrees.now right.values.now right.sent.now }
     ensures { IfOk result (λ b. b ≡ not (are_one same_value
@@ -128,7 +133,8 @@ pub(crate) fn differ(
         graph,
         left,
         right,
-        same_view,
+        turned,
+        movers,
         row,
         &mut scratch.left,
         &mut scratch.right,
@@ -167,7 +173,8 @@ fn fill(
     graph: &Graph,
     left: Side<'_>,
     right: Side<'_>,
-    same_view: bool,
+    turned: bool,
+    movers: Movers<'_>,
     row: &[Arc],
     first: &mut Vec<Val>,
     second: &mut Vec<Val>,
@@ -176,7 +183,9 @@ fn fill(
     requires row { All (IsArc graph.now) row.now }
     requires left { IsSized graph.now left.edges.now left.degrees.now left.values.now }
     requires right { IsSized graph.now right.edges.now right.degrees.now right.values.now }
-    requires same { AreOneView same_view left.edges.now right.edges.now left.degrees.now right.degrees.now }
+    requires movers { (u : ℕ) → u < length graph.now.ids → InMovers movers u }
+    requires still { AreStill program.now graph.now movers left.degrees.now left.values.now right.degrees.now right.values.now }
+    requires turned { turned ≡ false → All (λ a. in_view left.edges.now a ≡ in_view right.edges.now a) row.now }
     requires left_sent { AreSent left.alike program.now graph.now left.degrees.now left.values.now left.sent.now }
     requires right_sent { AreSent right.alike program.now graph.now right.degrees.now right.values.now right.sent.now }
     requires first { first.old.items ≡ [] }
@@ -186,7 +195,9 @@ fn fill(
         (all_brought program.now graph.now right.entry.edges.now right.entry.degrees.now right.entry.values.now row.now)) }
 {
     for arc in row {
-        push_both(program, graph, left, right, same_view, *arc, first, second)?;
+        push_both(
+            program, graph, left, right, turned, movers, *arc, first, second,
+        )?;
     }
     Ok(())
 }
@@ -197,7 +208,8 @@ fn push_both(
     graph: &Graph,
     left: Side<'_>,
     right: Side<'_>,
-    same_view: bool,
+    turned: bool,
+    movers: Movers<'_>,
     arc: Arc,
     first: &mut Vec<Val>,
     second: &mut Vec<Val>,
@@ -206,14 +218,16 @@ fn push_both(
     requires arc { IsArc graph.now arc }
     requires left { IsSized graph.now left.edges.now left.degrees.now left.values.now }
     requires right { IsSized graph.now right.edges.now right.degrees.now right.values.now }
-    requires same { AreOneView same_view left.edges.now right.edges.now left.degrees.now right.degrees.now }
+    requires movers { (u : ℕ) → u < length graph.now.ids → InMovers movers u }
+    requires still { AreStill program.now graph.now movers left.degrees.now left.values.now right.degrees.now right.values.now }
+    requires turned { turned ≡ false → in_view left.edges.now arc ≡ in_view right.edges.now arc }
     requires left_sent { AreSent left.alike program.now graph.now left.degrees.now left.values.now left.sent.now }
     requires right_sent { AreSent right.alike program.now graph.now right.degrees.now right.values.now right.sent.now }
     ensures { OnOk result ((all more : List Val) → AreLeft first.old.items second.old.items all more → AreLeft first.new.items second.new.items
         (all ++ filter is_sent (brings program.now graph.now left.entry.edges.now left.entry.degrees.now left.entry.values.now arc ∷ []))
         (more ++ filter is_sent (brings program.now graph.now right.entry.edges.now right.entry.degrees.now right.entry.values.now arc ∷ []))) }
 {
-    if !may_differ(left, right, same_view, arc) {
+    if !may_differ(left, right, turned, movers, arc) {
         return Ok(());
     }
     let here = message(program, graph, left, arc);
@@ -225,31 +239,18 @@ fn push_both(
     Ok(())
 }
 
-// Whether an arc may bring something else in one round than in the other: where its edge is in one of the two views alone, or
-// its tail has another value or another number of arcs.
-fn may_differ(left: Side<'_>, right: Side<'_>, same_view: bool, arc: Arc) -> bool
-    requires same { AreOneView same_view left.edges.now right.edges.now left.degrees.now right.degrees.now }
+// Whether an arc may bring something else in one round than in the other: where its tail may send something else, or
+// its edge is in one of the two views alone.
+fn may_differ(left: Side<'_>, right: Side<'_>, turned: bool, movers: Movers<'_>, arc: Arc) -> bool
+    requires movers { InMovers movers arc.tail.0 }
     requires left_edges { arc.edge.0 < length left.edges.now }
     requires right_edges { arc.edge.0 < length right.edges.now }
-    requires left_degrees { arc.tail.0 < length left.degrees.now }
-    requires right_degrees { arc.tail.0 < length right.degrees.now }
-    requires left_values { arc.tail.0 < length left.values.now }
-    requires right_values { arc.tail.0 < length right.values.now }
+    requires turned { turned ≡ false → in_view left.edges.now arc ≡ in_view right.edges.now arc }
     ensures edges { IsFalse result → in_view left.entry.edges.now arc ≡ in_view right.entry.edges.now arc }
-    ensures degrees { IsFalse result → get_or left.entry.degrees.now arc.tail.0 0 ≡ get_or right.entry.degrees.now arc.tail.0 0 }
-    ensures values { IsFalse result → value_at left.entry.values.now arc.tail.0 ≡ value_at right.entry.values.now arc.tail.0 }
+    ensures tail { IsFalse result → moves movers.entry arc.tail.0 ≡ false }
 {
     let edge = arc.edge.0 as usize;
-    let tail = arc.tail.0 as usize;
-    if left.alike {
-        return true;
-    }
-    if same_view {
-        return is_other(left.values[tail], right.values[tail]);
-    }
-    is_other(left.values[tail], right.values[tail])
-        || left.edges[edge] != right.edges[edge]
-        || left.degrees[tail] != right.degrees[tail]
+    movers.moves(arc.tail) || turned && left.edges[edge] != right.edges[edge]
 }
 
 // Adds a message. None is not sent.

@@ -10,8 +10,10 @@ ghost use Rattle.round_kernel.specs.Histories.{IsHistory, HasChanges, changes_fr
 ghost use Rattle.round_kernel.specs.RowLists.{AreRows};
 ghost use Rattle.round_kernel.specs.Rounds.{AreIdle};
 ghost use Rattle.round_kernel.specs.Frames.{IsFrame, StandAt, new_arcs, old_arcs, lone_at, was_touched_at, count_in, AreKept};
+ghost use Rattle.round_kernel.specs.Aiding.{StandsAided};
 ghost use Rattle.round_kernel.specs.Steps.{HasRounds, IsRun, outcome_of, TellsAll, AreAlong};
 
+use crate::aids::Aids;
 use crate::history::{Change, History, list_at};
 use crate::round::{Frame, Lists, go_on, run_round};
 use crate::rows::Rows;
@@ -20,6 +22,7 @@ use crate::values::{all_changes, changes_between};
 use crate::visit::Made;
 use graph_model::{EdgeNo, Graph};
 use std::alloc::Global;
+use std::mem;
 use surge_outside::{List, NoMemory};
 use vertex_lang::{Outcome, Program, Rounds, Updater, arcs_of, names_outdeg};
 
@@ -153,6 +156,7 @@ fn run_rounds<U: Updater>(alloc: Global, frame: Frame<'_>, updater: &mut U) -> R
 {
     let mut lists = Lists::new(alloc, frame, updater)?;
     let mut kept = vec![in alloc; Kept::new(); frame.graph.node_count() as usize]?;
+    let mut aids = Aids::new(alloc, frame, &lists, updater)?;
     let mut history = History::new(alloc);
     let mut work = 0;
     let mut round = 0;
@@ -164,11 +168,13 @@ fn run_rounds<U: Updater>(alloc: Global, frame: Frame<'_>, updater: &mut U) -> R
             &mut history,
             &mut lists,
             &mut kept,
+            &mut aids,
             updater,
         )?;
         round += 1;
     }
     trim(&mut history.changes);
+    history.starts = List::from_vec(mem::replace(&mut lists.starts, Vec::new(alloc)));
     Ok(Run {
         history,
         lists,
@@ -193,6 +199,7 @@ fn run_one<U: Updater>(
     history: &mut History,
     lists: &mut Lists,
     kept: &mut [Kept],
+    aids: &mut Aids,
     updater: &mut U,
 ) -> Result<u64, NoMemory>
     requires frame { IsFrame U.answer frame frame.limit }
@@ -202,6 +209,8 @@ fn run_one<U: Updater>(
     requires idle { AreIdle lists.old }
     requires kept_size { length kept.old ≡ count_in frame }
     requires kept { 0 < round → AreKept U.answer frame (round - 1) (was_touched_at U.answer frame round) kept.old }
+    requires aided { StandsAided U.answer frame round aids.old }
+    ensures aided { OnOk result (StandsAided U.answer frame.entry (round + 1) aids.new) }
     ensures history { OnOk result (HasRounds U.answer frame.entry (round + 1) history.new) }
     ensures at { OnOk result (StandAt U.answer frame.entry (round + 1) (was_touched_at U.answer frame.entry (round + 1)) lists.new) }
     ensures idle { OnOk result (AreIdle lists.new) }
@@ -212,13 +221,22 @@ fn run_one<U: Updater>(
     ensures calls { IfOk result (λ n. U.calls updater.new ≡ U.calls updater.old + n) }
 {
     let before = history.changes_before(round);
-    let (made, work) = run_round(alloc, frame, before, round, lists, kept, updater)?;
+    let (made, work) = run_round(alloc, frame, before, round, lists, kept, aids, updater)?;
     go_on(
         frame,
         before,
         made.changes.as_slice(),
         round,
         lists,
+        updater,
+    );
+    let changed = frame.history.changes_after(round);
+    aids.go_on(
+        frame,
+        round,
+        lists,
+        made.changes.as_slice(),
+        changed,
         updater,
     );
     add_round(history, round, made)?;

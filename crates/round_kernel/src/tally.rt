@@ -135,8 +135,8 @@ fn greater_of(left: Val, right: Val) -> Val
 /// The greatest number that a value can be, 2^63 - 1. The least one is its negation.
 const GREATEST: i64 = i64::MAX;
 
-// A number brought into the range of values.
-fn clamp_number(number: i128) -> i64
+/// A number brought into the range of values.
+pub(crate) fn clamp_number(number: i128) -> i64
     ensures { result ≡ clamped number }
 {
     if number > i128::from(GREATEST) {

@@ -9,14 +9,17 @@ ghost use Rattle.lone_work.specs.Work.{node_touched, node_counted, node_marked};
 ghost use Rattle.round_kernel.specs.Sides.{arcs_in, row_of, AreSent, IsRound};
 ghost use Rattle.round_kernel.specs.RowLists.{AreRows};
 ghost use Rattle.round_kernel.specs.Rounds.{old_view, was_touched};
+ghost use Rattle.round_kernel.specs.Aiding.{IsAided};
 ghost use Rattle.round_kernel.specs.Made.{mark_if, change_if};
 ghost use Rattle.round_kernel.specs.Tallies.{tally_of, kept_at};
 ghost use Rattle.lone_work.specs.Inputs.{got_values};
 
+use crate::aids::Aids;
 use crate::history::Change;
-use crate::message::{Scratch, Side, differ, is_other, tally};
+use crate::message::{Scratch, Side, differ, is_other};
 use crate::rows::Rows;
 use crate::tally::{Kept, Tally};
+use crate::told::Movers;
 use graph_model::{Graph, NodeNo, Val};
 use surge_outside::{List, NoMemory};
 use vertex_lang::{Program, Updater};
@@ -59,6 +62,7 @@ pub(crate) fn visit<U: Updater>(
     spot: Spot,
     touched: &mut bool,
     kept: &mut Kept,
+    aids: &Aids,
     scratch: &mut Scratch,
     made: &mut Made,
     updater: &mut U,
@@ -76,6 +80,7 @@ pub(crate) fn visit<U: Updater>(
     requires new_sent { AreSent sides.new.alike program.now graph.now sides.new.degrees.now sides.new.values.now sides.new.sent.now }
     requires before_sent { AreSent sides.new.alike program.now graph.now sides.new.degrees.now sides.before.now sides.before_sent.now }
     requires old_sent { AreSent sides.old.alike program.now graph.now sides.old.degrees.now sides.old.values.now sides.old.sent.now }
+    requires aided { IsAided U.answer program.now graph.now rows.now.by_head spot.first sides.old.edges.now sides.new.edges.now spot.round aids.now }
     ensures touched { OnOk result (touched.new ≡ node_touched U.answer program.now graph.now (arcs_in rows.now.by_head sides.entry.new.edges.now) (old_view spot.first rows.now.by_head sides.entry.old.edges.now) spot.node.0 spot.round) }
     ensures kept { OnOk result (touched.new ≡ true → kept.new ≡ kept_at U.answer program.now graph.now (arcs_in rows.now.by_head sides.entry.new.edges.now) spot.round spot.node.0) }
     ensures count { IfOk result (λ n. n ≡ (if node_counted U.answer program.now graph.now (arcs_in rows.now.by_head sides.entry.new.edges.now) (old_view spot.first rows.now.by_head sides.entry.old.edges.now) spot.node.0 spot.round then 1 else 0)) }
@@ -87,13 +92,15 @@ pub(crate) fn visit<U: Updater>(
     ensures calls { IfOk result (λ n. U.calls updater.new ≡ U.calls updater.old + n) }
 {
     let was = *touched;
-    let is_touched = is_touched(program, graph, rows, sides, spot, was, scratch, updater)?;
+    let is_touched = is_touched(
+        program, graph, rows, sides, spot, was, aids, scratch, updater,
+    )?;
     *touched = is_touched;
     if !is_touched {
         return Ok(0);
     }
     visit_touched(
-        program, graph, rows, sides, spot, was, kept, scratch, made, updater,
+        program, graph, rows, sides, spot, was, kept, aids, scratch, made, updater,
     )
 }
 
@@ -106,6 +113,7 @@ fn visit_touched<U: Updater>(
     spot: Spot,
     was: bool,
     kept: &mut Kept,
+    aids: &Aids,
     scratch: &mut Scratch,
     made: &mut Made,
     updater: &mut U,
@@ -122,6 +130,7 @@ fn visit_touched<U: Updater>(
     requires touched { node_touched U.answer program.now graph.now (arcs_in rows.now.by_head sides.new.edges.now) (old_view spot.first rows.now.by_head sides.old.edges.now) spot.node.0 spot.round ≡ true }
     requires new_sent { AreSent sides.new.alike program.now graph.now sides.new.degrees.now sides.new.values.now sides.new.sent.now }
     requires before_sent { AreSent sides.new.alike program.now graph.now sides.new.degrees.now sides.before.now sides.before_sent.now }
+    requires aided { IsAided U.answer program.now graph.now rows.now.by_head spot.first sides.old.edges.now sides.new.edges.now spot.round aids.now }
     ensures kept { OnOk result (kept.new ≡ kept_at U.answer program.now graph.now (arcs_in rows.now.by_head sides.entry.new.edges.now) spot.round spot.node.0) }
     ensures count { IfOk result (λ n. n ≡ (if node_counted U.answer program.now graph.now (arcs_in rows.now.by_head sides.entry.new.edges.now) (old_view spot.first rows.now.by_head sides.entry.old.edges.now) spot.node.0 spot.round then 1 else 0)) }
     ensures marks { OnOk result (made.new.marks ≡ made.old.marks ++ mark_if (node_marked U.answer program.now graph.now (Some (arcs_in rows.now.by_head sides.entry.new.edges.now)) spot.node.0 spot.round) spot.node) }
@@ -129,9 +138,11 @@ fn visit_touched<U: Updater>(
         OnOk result (made.new.changes ≡ made.old.changes ++ change_if (not (same_value (value_at (values (spot.round + 1)) spot.node.0) (value_at (values spot.round) spot.node.0))) spot.node (value_at (values (spot.round + 1)) spot.node.0)) }
     ensures calls { IfOk result (λ n. U.calls updater.new ≡ U.calls updater.old + n) }
 {
-    let tally = tally(program, graph, sides.new, rows.into(spot.node));
+    let tally = aids.feed.tally(
+        program, graph, rows, sides.new, spot.node, spot.round, updater,
+    );
     let marked = is_marked(
-        program, graph, rows, sides, spot, was, *kept, tally, scratch, updater,
+        program, graph, rows, sides, spot, was, *kept, tally, aids, scratch, updater,
     )?;
     *kept = tally.kept();
     push_mark(&mut made.marks, marked, spot.node)?;
@@ -152,6 +163,7 @@ fn is_touched<U: Updater>(
     sides: Sides<'_>,
     spot: Spot,
     touched: bool,
+    aids: &Aids,
     scratch: &mut Scratch,
     _updater: &U,
 ) -> Result<bool, NoMemory>
@@ -163,19 +175,20 @@ fn is_touched<U: Updater>(
     requires touched { touched ≡ was_touched U.answer program.now graph.now rows.now.by_head spot.first sides.old.edges.now sides.new.edges.now spot.round spot.node.0 }
     requires new_sent { AreSent sides.new.alike program.now graph.now sides.new.degrees.now sides.new.values.now sides.new.sent.now }
     requires old_sent { AreSent sides.old.alike program.now graph.now sides.old.degrees.now sides.old.values.now sides.old.sent.now }
+    requires aided { IsAided U.answer program.now graph.now rows.now.by_head spot.first sides.old.edges.now sides.new.edges.now spot.round aids.now }
     ensures { IfOk result (λ b. b ≡ node_touched U.answer program.now graph.now (arcs_in rows.now.by_head sides.entry.new.edges.now) (old_view spot.first rows.now.by_head sides.entry.old.edges.now) spot.node.0 spot.round) }
 {
     if either(spot.first, touched) {
         return Ok(true);
     }
+    let turned = aids.told.is_turned(spot.node);
+    let movers = Movers::Views(&aids.told.apart);
+    let row = rows.into(spot.node);
+    if !turned && movers.are_still(row) {
+        return Ok(false);
+    }
     let active = differ(
-        program,
-        graph,
-        sides.new,
-        sides.old,
-        false,
-        rows.into(spot.node),
-        scratch,
+        program, graph, sides.new, sides.old, turned, movers, row, scratch,
     )?;
     Ok(active)
 }
@@ -192,6 +205,7 @@ fn is_marked<U: Updater>(
     was: bool,
     kept: Kept,
     tally: Tally,
+    aids: &Aids,
     scratch: &mut Scratch,
     updater: &U,
 ) -> Result<bool, NoMemory>
@@ -207,6 +221,7 @@ fn is_marked<U: Updater>(
     requires touched { node_touched U.answer program.now graph.now (arcs_in rows.now.by_head sides.new.edges.now) (old_view spot.first rows.now.by_head sides.old.edges.now) spot.node.0 spot.round ≡ true }
     requires new_sent { AreSent sides.new.alike program.now graph.now sides.new.degrees.now sides.new.values.now sides.new.sent.now }
     requires before_sent { AreSent sides.new.alike program.now graph.now sides.new.degrees.now sides.before.now sides.before_sent.now }
+    requires aided { IsAided U.answer program.now graph.now rows.now.by_head spot.first sides.old.edges.now sides.new.edges.now spot.round aids.now }
     ensures { IfOk result (λ b. b ≡ node_marked U.answer program.now graph.now (Some (arcs_in rows.now.by_head sides.entry.new.edges.now)) spot.node.0 spot.round) }
 {
     if spot.round == 0 {
@@ -218,7 +233,7 @@ fn is_marked<U: Updater>(
     if was && kept.differs(tally) {
         return Ok(true);
     }
-    is_other_input(program, graph, rows, sides, spot, scratch, updater)
+    is_other_input(program, graph, rows, sides, spot, aids, scratch, updater)
 }
 
 // Whether the input of a node differs from that of the round before, in the new view, found by a look at all its arcs.
@@ -228,6 +243,7 @@ fn is_other_input<U: Updater>(
     rows: &Rows,
     sides: Sides<'_>,
     spot: Spot,
+    aids: &Aids,
     scratch: &mut Scratch,
     _updater: &U,
 ) -> Result<bool, NoMemory>
@@ -238,6 +254,7 @@ fn is_other_input<U: Updater>(
     requires before { IsRound U.answer program.now graph.now rows.now.by_head sides.new.edges.now sides.new.degrees.now sides.before.now (spot.round - 1) }
     requires new_sent { AreSent sides.new.alike program.now graph.now sides.new.degrees.now sides.new.values.now sides.new.sent.now }
     requires before_sent { AreSent sides.new.alike program.now graph.now sides.new.degrees.now sides.before.now sides.before_sent.now }
+    requires aided { IsAided U.answer program.now graph.now rows.now.by_head spot.first sides.old.edges.now sides.new.edges.now spot.round aids.now }
     ensures { IfOk result (λ b. b ≡ node_marked U.answer program.now graph.now (Some (arcs_in rows.now.by_head sides.entry.new.edges.now)) spot.node.0 spot.round) }
 {
     if spot.round == 0 {
@@ -247,6 +264,11 @@ fn is_other_input<U: Updater>(
     if is_other(sides.new.values[place], sides.before[place]) {
         return Ok(true);
     }
+    let movers = Movers::Rounds(&aids.told.moved, spot.round);
+    let row = rows.into(spot.node);
+    if movers.are_still(row) {
+        return Ok(false);
+    }
     let before = Side {
         edges: sides.new.edges,
         degrees: sides.new.degrees,
@@ -255,13 +277,7 @@ fn is_other_input<U: Updater>(
         sent: sides.before_sent,
     };
     let marked = differ(
-        program,
-        graph,
-        sides.new,
-        before,
-        true,
-        rows.into(spot.node),
-        scratch,
+        program, graph, sides.new, before, false, movers, row, scratch,
     )?;
     Ok(marked)
 }

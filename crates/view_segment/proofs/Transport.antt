@@ -109,4 +109,5 @@ module _ (answer : Answer) (p : Program) (graph : GraphData) where
       within = marks.within;
       listed = λ v under. marks.listed v under ∙ marked-permuted xs ys v (k + 1) s;
     };
+    starts = is.starts;
   }

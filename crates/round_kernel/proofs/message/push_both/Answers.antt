@@ -10,7 +10,7 @@ returns-then-not-may_differ c =
     let l = c.args.left in
     let r = c.args.right in
     λ all more had. left-same c.args.first.now.items c.args.second.now.items all more _ _ _ _ refl refl
-    (brings-same c.args.program.now c.args.graph.now l.edges.now r.edges.now l.degrees.now r.degrees.now l.values.now r.values.now c.args.arc (c.may_differ.ensures.edges c.if-not-may_differ.true) (c.may_differ.ensures.degrees c.if-not-may_differ.true) (c.may_differ.ensures.values c.if-not-may_differ.true)) had
+    (brings-same c.args.program.now c.args.graph.now l.edges.now r.edges.now l.degrees.now r.degrees.now l.values.now r.values.now c.args.arc (c.may_differ.ensures.edges c.if-not-may_differ.true) (c.requires.still c.args.arc.tail.0 c.args.arc.edge.0 c.requires.arc.tail (c.may_differ.ensures.tail c.if-not-may_differ.true))) had
 
 pub returns-in_ok-push_sent-2 : goal.returns-in_ok-push_sent-2
 returns-in_ok-push_sent-2 c = λ all more had.

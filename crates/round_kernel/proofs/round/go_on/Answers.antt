@@ -8,8 +8,8 @@ use Rattle.round_kernel.specs.Sides.{AreSent, MayKeep, arcs_in}
 use Rattle.round_kernel.specs.Queues.{waits}
 use Rattle.round_kernel.specs.Frames.{StandAt, count_in, was_touched_at, lone_at, old_lone_at, new_arcs}
 use Rattle.round_kernel.proofs.Marking.{changes-now, old-step, moved}
-use Rattle.round_kernel.proofs.Rounding.{at-next}
-use Rattle.round_kernel.proofs.Sending.{sent-at}
+use Rattle.round_kernel.proofs.Rounding.{at-next, not-told}
+use Rattle.round_kernel.proofs.Sending.{sent-at, sent-elsewhere}
 use Rattle.round_kernel.proofs.round.go_on.Goals as goal
 
 -- messages of the round before, and of this one, by the values of the plain run
@@ -80,6 +80,18 @@ apply-requires-2-clause-sent g c =
     let f = c.args.frame in
     sent-at _ f.program.now f.graph.now _ _ _ _ _ _ c.deref-2.ensures.value c.deref_mut-3.ensures.value c.deref_mut-4.ensures.value
     (subst (λ (l : Lists). AreSent l.alike f.program.now f.graph.now l.new_degrees.items l.new_now.items l.new_sent.items) (sym c.catch_up_sent.ensures.kept) (subst (λ (l : Lists). AreSent l.alike f.program.now f.graph.now l.new_degrees.items l.new_now.items l.new_sent.items) (sym c.catch_up_both.ensures.kept) c.requires.at.new_sent))
+
+pub apply-requires-2-clause-twin : goal.apply-requires-2-clause-twin
+apply-requires-2-clause-twin g c = λ t.
+    let f = c.args.frame in
+    let lists = c.catch_up_sent.new.lists in
+    let is_old = with_items_is lists.old_now c.apply.new.now (omega (arith, c.apply.auto.now, ap (λ (vs : List Val). length vs) c.deref_mut.ensures.value, lists.old_now.ok)) in
+    let is_sent = with_items_is lists.old_sent c.apply.new.sent (omega (arith, c.apply.auto.sent, ap (λ (vs : List Val). length vs) c.deref_mut-2.ensures.value, lists.old_sent.ok)) in
+    let now = c.deref-3.ensures.value ∙ is_old in
+    let size : length c.apply.new.now ≡ count_in f = omega (arith, c.apply.auto.now, ap (λ (vs : List Val). length vs) c.deref_mut.ensures.value, ap (λ (l : Lists). length l.old_now.items) c.catch_up_sent.ensures.kept, ap (λ (l : Lists). length l.old_now.items) c.catch_up_both.ensures.kept, c.requires.at.old_sized.values_size) in (
+      ap (λ (vs : List Val). length vs) now ∙ size,
+      sent-elsewhere _ f.program.now f.graph.now _ _ _ _ (c.requires.frame.degree (not-told f.by_degree t)) (sent-at _ f.program.now f.graph.now _ _ _ _ _ _ refl now (c.deref-4.ensures.value ∙ is_sent) c.apply.ensures.sent),
+    )
 
 pub returns-clause-at : goal.returns-clause-at
 returns-clause-at g c =

@@ -18,7 +18,7 @@ run_rounds-requires-clause-frame g c = record {
   old_size = ap (λ (bs : List Bool). length bs) (c.deref.ensures.value ∙ c.in_ok-none.ensures.items_if_clones_equal (λ y h. h)) ∙ length-replicate _ _ ∙ c.requires.edges;
   new_size = c.requires.edges;
   degree = λ e. c.names_outdeg.ensures.ignores e;
-  history = none-history g.U.Updater.answer c.args.program.now c.args.graph.now _ c.new-nothing.result c.new-nothing.ensures.changes c.new-nothing.ensures.marks;
+  history = none-history g.U.Updater.answer c.args.program.now c.args.graph.now _ c.new-nothing.result c.new-nothing.ensures.changes c.new-nothing.ensures.marks c.new-nothing.ensures.starts;
   arcs = All-nil (IsArc c.args.graph.now);
   turned = λ e. absurd (true≢false e);
 }

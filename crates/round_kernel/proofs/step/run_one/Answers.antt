@@ -1,15 +1,29 @@
-use Rattle.std.proofs.Common.{arith}
+use Rattle.std.proofs.Common.{◌+◌, refl, arith}
 use Rattle.std.specs.List.{range_with_len}
 use Rattle.std.proofs.lemmas.List.FromFn.{length-range_with_len}
 use Rattle.std.proofs.lemmas.List.Sums.{count_by-le-length}
 use Rattle.lone_work.specs.CountLaws.{work-by-rounds}
-use Rattle.round_kernel.specs.Frames.{count_in, counted_at, new_arcs, old_arcs}
+use Rattle.round_kernel.specs.Frames.{count_in, counted_at, new_arcs, old_arcs, old_lone_at}
 use Rattle.round_kernel.proofs.Growing.{rounds-more, changes-last}
 use Rattle.round_kernel.proofs.KeptRounds.{kept-on}
+use Rattle.round_kernel.proofs.Marking.{changes-now, old-step}
 use Rattle.round_kernel.proofs.step.run_one.Goals as goal
+
+pub run_round-requires-clause-before : goal.run_round-requires-clause-before
+run_round-requires-clause-before g c = λ later. changes-last g.U.Updater.answer c.args.frame c.args.history.now c.args.round c.requires.history later c.changes_before-before.result.now (c.changes_before-before.ensures later)
 
 pub go_on-requires-clause-before : goal.go_on-requires-clause-before
 go_on-requires-clause-before g c = λ later. changes-last g.U.Updater.answer c.args.frame c.args.history.now c.args.round c.requires.history later c.changes_before-before.result.now (c.changes_before-before.ensures later)
+
+pub go_on-requires-2-clause-old : goal.go_on-requires-2-clause-old
+go_on-requires-2-clause-old g c = λ one.
+    let f = c.args.frame in
+    let r = c.args.round in
+    old-step g.U.Updater.answer f c.requires.frame r (count_in f) (old_lone_at g.U.Updater.answer f r) (old_lone_at g.U.Updater.answer f (r + 1)) c.changes_after-changed.result.now c.requires.round one refl refl refl c.changes_after-changed.ensures
+
+pub go_on-requires-2-clause-within : goal.go_on-requires-2-clause-within
+go_on-requires-2-clause-within g c =
+    (changes-now g.U.Updater.answer c.args.frame c.args.round c.requires.frame c.requires.round c.changes_after-changed.result.now c.changes_after-changed.ensures).within
 
 pub returns-clause-history : goal.returns-clause-history
 returns-clause-history g c =

@@ -1,4 +1,5 @@
-use Rattle.std.proofs.Common.{◌≡◌, ◌∙◌, List, length, ap, sym, arith}
+use Rattle.std.proofs.Common.{◌≡◌, ◌∙◌, List, Vec, Global, length, ap, sym, inr, arith}
+use Rattle.graph_model.specs.declared.value.Val.{Val}
 use Rattle.std.specs.Vec.{with_items}
 use Rattle.std.proofs.lemmas.List.{length-replicate, with_items_is}
 use Rattle.lone_work.specs.StepLaws.{no-round}
@@ -17,6 +18,7 @@ loop-round-init g c = record {
   idle = c.in_ok-lists.ensures.idle;
   kept_size = ap (λ (ks : List Kept). length ks) (c.in_ok-kept.ensures.items_if_clones_equal (λ y e. e)) ∙ length-replicate _ _ ∙ c.node_count.ensures.count;
   kept = λ later. absurd (omega (arith, later));
+  aided = c.in_ok-aids.ensures.aided;
   within = omega arith;
   work = sym (no-round g.U.Updater.answer c.args.frame.program.now c.args.frame.graph.now (new_arcs c.args.frame) (old_arcs c.args.frame));
   few = omega arith;
@@ -34,6 +36,7 @@ loop-round-preserved g c =
       idle = c.in_ok-work.ensures.idle;
       kept_size = ap (λ (ks : List Kept). length ks) same ∙ c.run_one.ensures.kept_size;
       kept = λ later. kept-next g.U.Updater.answer c.args.frame c.loop-round.round c.run_one.new.kept (with_items kept c.run_one.new.kept).items same c.in_ok-work.ensures.kept;
+      aided = c.in_ok-work.ensures.aided;
       within = omega arith;
       work = omega (arith, c.loop-round.invariant.work, c.in_ok-work.ensures.work);
       few = omega (arith, c.loop-round.invariant.few, c.in_ok-work.ensures.few);
@@ -52,7 +55,7 @@ returns-clause-run g c =
       | else-loop-round-test w ↦ end-all answer f c.requires.frame r h u.rounds (omega arith)
     ] in
     record {
-      history = run-history answer f c.requires.frame r h u.rounds u.within end c.trim.new.changes c.trim.ensures.places;
+      history = run-history answer f c.requires.frame r h u.rounds u.within end c.trim.new.changes c.trim.ensures.places _ (inr (c.from_vec.ensures ∙ ap (λ (v : Vec Val Global). v.items) c.replace.ensures.value ∙ u.at.starts));
       few = omega (arith, c.trim.ensures.few, u.rounds.size, u.within);
       last = c.trim.ensures.last;
       work_is = u.work ∙ run-work answer f c.requires.frame r h u.rounds u.within end;

@@ -1,11 +1,13 @@
-use Rattle.std.proofs.Common.{◌≡◌, ◌-◌, suc, sym, subst, refl, List, arith}
+use Rattle.std.proofs.Common.{◌≡◌, ◌<◌, ◌-◌, suc, false, sym, subst, refl, ℕ, List, length, get_or, arith}
 use Rattle.std.specs.Prelude.{All, ◌==◌}
-use Rattle.std.proofs.lemmas.List.Elements.{All-filter}
+use Rattle.std.proofs.lemmas.List.Elements.{All-filter, All-weaker}
 use Rattle.vertex_lang.specs.declared.arc.Arc.{Arc}
 use Rattle.vertex_lang.specs.Arcs.{IsArc}
+use Rattle.lone_work.specs.Inputs.{got_values}
 use Rattle.round_kernel.specs.Sides.{arcs_in, all_brought}
 use Rattle.round_kernel.proofs.Brought.{brought-row}
 use Rattle.round_kernel.proofs.Visits.{marked-first, marked-own, marked-got}
+use Rattle.round_kernel.proofs.Stillness.{itself, same-rounds}
 use Rattle.round_kernel.proofs.visit.is_other_input.Goals as goal
 
 pub returns-then-spot-eq0 : goal.returns-then-spot-eq0
@@ -17,11 +19,33 @@ returns-then-is_other g c =
     let at : r ≡ suc (r - 1) = omega arith in
     marked-own g.U.Updater.answer c.args.program.now c.args.graph.now (arcs_in c.args.rows.now.by_head c.args.sides.new.edges.now) c.args.spot.node.0 r (r - 1) at c.args.sides.new.values.now c.args.sides.before.now c.is_other.result c.requires.new.values_are c.requires.before.values_are c.is_other.ensures c.if-is_other.true
 
-pub differ-requires-clause-row : goal.differ-requires-clause-row
-differ-requires-clause-row g c = subst (λ (xs : List Arc). All (IsArc c.args.graph.now) xs) (sym c.into.ensures) (All-filter (λ (a : Arc). a.head.0 == c.args.spot.node.0) (IsArc c.args.graph.now) c.args.rows.now.by_head c.requires.rows.arcs)
+pub are_still-requires : goal.are_still-requires
+are_still-requires g c =
+    subst (λ (xs : List Arc). All (λ a. a.tail.0 < length c.deref.result.now) xs) (sym c.into-row.ensures)
+    (All-filter (λ (a : Arc). a.head.0 == c.args.spot.node.0) (λ a. a.tail.0 < length c.deref.result.now) c.args.rows.now.by_head
+    (All-weaker (IsArc c.args.graph.now) (λ a. a.tail.0 < length c.deref.result.now) (λ a arc. omega (arith, arc.tail, c.requires.aided.told.moved_size, c.deref.ensures.len)) c.args.rows.now.by_head c.requires.rows.arcs))
 
-pub differ-requires-clause-same : goal.differ-requires-clause-same
-differ-requires-clause-same g c = λ e. (refl, refl)
+pub returns-then-are_still : goal.returns-then-are_still
+returns-then-are_still g c =
+    let answer = g.U.Updater.answer in
+    let p = c.args.program.now in
+    let graph = c.args.graph.now in
+    let all = c.args.rows.now.by_head in
+    let new = c.args.sides.new in
+    let told = c.args.aids.now.told in
+    let v = c.args.spot.node.0 in
+    let r = c.args.spot.round in
+    let later : 0 < r = omega arith in
+    let at : r ≡ suc (r - 1) = omega arith in
+    let now = got_values answer p graph (arcs_in all new.edges.now) v r in
+    let before = got_values answer p graph (arcs_in all new.edges.now) v (r - 1) in
+    let still = subst (λ (ns : List ℕ). All (λ (a : Arc). (get_or ns a.tail.0 0 == r) ≡ false) c.into-row.result.now) c.deref.ensures.value (c.are_still.ensures c.if-are_still.true) in
+    marked-got answer p graph (arcs_in all new.edges.now) v r (r - 1) at new.values.now c.args.sides.before.now now before c.is_other.result false c.requires.new.values_are c.requires.before.values_are
+    refl refl c.is_other.ensures c.if-is_other.false
+    (itself now before (same-rounds answer p graph all c.args.spot.first c.args.sides.old.edges.now new.edges.now r told c.requires.aided.told c.requires.rows.arcs v later c.into-row.result.now c.into-row.ensures still))
+
+pub differ-requires-clause-row : goal.differ-requires-clause-row
+differ-requires-clause-row g c = subst (λ (xs : List Arc). All (IsArc c.args.graph.now) xs) (sym c.into-row.ensures) (All-filter (λ (a : Arc). a.head.0 == c.args.spot.node.0) (IsArc c.args.graph.now) c.args.rows.now.by_head c.requires.rows.arcs)
 
 pub returns : goal.returns
 returns g c =
@@ -33,8 +57,8 @@ returns g c =
     let r = c.args.spot.round in
     let at : r ≡ suc (r - 1) = omega arith in
     marked-got g.U.Updater.answer p graph (arcs_in all new.edges.now) v r (r - 1) at new.values.now c.args.sides.before.now
-    (all_brought p graph new.edges.now new.degrees.now new.values.now c.into.result.now) (all_brought p graph new.edges.now new.degrees.now c.args.sides.before.now c.into.result.now)
+    (all_brought p graph new.edges.now new.degrees.now new.values.now c.into-row.result.now) (all_brought p graph new.edges.now new.degrees.now c.args.sides.before.now c.into-row.result.now)
     c.is_other.result c.in_ok-marked.marked c.requires.new.values_are c.requires.before.values_are
-    (brought-row g.U.Updater.answer p graph all new.edges.now new.degrees.now new.values.now r c.requires.new v c.into.result.now c.requires.rows.arcs c.into.ensures)
-    (brought-row g.U.Updater.answer p graph all new.edges.now new.degrees.now c.args.sides.before.now (r - 1) c.requires.before v c.into.result.now c.requires.rows.arcs c.into.ensures)
+    (brought-row g.U.Updater.answer p graph all new.edges.now new.degrees.now new.values.now r c.requires.new v c.into-row.result.now c.requires.rows.arcs c.into-row.ensures)
+    (brought-row g.U.Updater.answer p graph all new.edges.now new.degrees.now c.args.sides.before.now (r - 1) c.requires.before v c.into-row.result.now c.requires.rows.arcs c.into-row.ensures)
     c.is_other.ensures c.if-is_other.false c.in_ok-marked.ensures

@@ -1,22 +1,60 @@
-use Rattle.std.proofs.Common.{◌∙◌, sym, subst, List}
-use Rattle.std.specs.Prelude.{All, ◌==◌}
-use Rattle.std.proofs.lemmas.Bool.{false≢true}
-use Rattle.std.proofs.lemmas.List.Elements.{All-filter}
+use Rattle.std.proofs.Common.{◌≡◌, ◌∙◌, ◌<◌, false, refl, sym, ap, subst, Bool, List, length, get_or, arith}
+use Rattle.std.specs.Prelude.{All, ◌==◌, ◌||◌}
+use Rattle.std.proofs.lemmas.List.Elements.{All-filter, All-weaker}
 use Rattle.vertex_lang.specs.declared.arc.Arc.{Arc}
 use Rattle.vertex_lang.specs.Arcs.{IsArc}
-use Rattle.round_kernel.specs.Sides.{all_brought}
+use Rattle.lone_work.specs.Inputs.{got_values}
+use Rattle.round_kernel.specs.Sides.{arcs_in, all_brought}
 use Rattle.round_kernel.proofs.Brought.{brought-row}
 use Rattle.round_kernel.proofs.Visits.{touched-yes, touched-test}
+use Rattle.round_kernel.proofs.Feeding.{sent-under}
+use Rattle.round_kernel.proofs.Stillness.{itself, or-first, same-views, views-same}
 use Rattle.round_kernel.proofs.visit.is_touched.Goals as goal
 
 pub returns-then-either : goal.returns-then-either
 returns-then-either g c = touched-yes g.U.Updater.answer c.args.program.now c.args.graph.now c.args.rows.now.by_head c.args.sides.old.edges.now c.args.sides.new.edges.now c.args.spot.node.0 c.args.spot.round c.args.spot.first c.args.touched c.requires.touched (sym c.either.ensures ∙ c.if-either.true)
 
-pub differ-requires-clause-row : goal.differ-requires-clause-row
-differ-requires-clause-row g c = subst (λ (xs : List Arc). All (IsArc c.args.graph.now) xs) (sym c.into.ensures) (All-filter (λ (a : Arc). a.head.0 == c.args.spot.node.0) (IsArc c.args.graph.now) c.args.rows.now.by_head c.requires.rows.arcs)
+pub are_still-requires : goal.are_still-requires
+are_still-requires g c =
+    subst (λ (xs : List Arc). All (λ a. a.tail.0 < length c.deref.result.now) xs) (sym c.into-row.ensures)
+    (All-filter (λ (a : Arc). a.head.0 == c.args.spot.node.0) (λ a. a.tail.0 < length c.deref.result.now) c.args.rows.now.by_head
+    (All-weaker (IsArc c.args.graph.now) (λ a. a.tail.0 < length c.deref.result.now) (λ a arc. omega (arith, arc.tail, c.requires.aided.told.apart_size, c.deref.ensures.len)) c.args.rows.now.by_head c.requires.rows.arcs))
 
-pub differ-requires-clause-same : goal.differ-requires-clause-same
-differ-requires-clause-same g c = λ e. absurd (false≢true e)
+pub returns-then-are_still : goal.returns-then-are_still
+returns-then-are_still g c =
+    let answer = g.U.Updater.answer in
+    let p = c.args.program.now in
+    let graph = c.args.graph.now in
+    let all = c.args.rows.now.by_head in
+    let new = c.args.sides.new.edges.now in
+    let old = c.args.sides.old.edges.now in
+    let told = c.args.aids.now.told in
+    let v = c.args.spot.node.0 in
+    let r = c.args.spot.round in
+    let neither : (c.args.spot.first || c.args.touched) ≡ false = sym c.either.ensures ∙ c.if-either.false in
+    let still = subst (λ (bs : List Bool). All (λ (a : Arc). get_or bs a.tail.0 false ≡ false) c.into-row.result.now) c.deref.ensures.value (c.are_still.ensures c.if-are_still.true) in
+    touched-test answer p graph all old new v r c.args.spot.first c.args.touched false
+    (got_values answer p graph (arcs_in all new) v r) (got_values answer p graph (arcs_in all old) v r)
+    c.requires.node c.requires.touched neither (λ e. refl) (λ e. refl)
+    (itself (got_values answer p graph (arcs_in all new) v r) (got_values answer p graph (arcs_in all old) v r)
+    (same-views answer p graph all c.args.spot.first old new r told c.requires.aided.told c.requires.rows.arcs v (or-first c.args.spot.first c.args.touched neither) (sym c.is_turned-turned.ensures ∙ c.if-not-turned.true) c.into-row.result.now c.into-row.ensures still))
+
+pub differ-requires-clause-row : goal.differ-requires-clause-row
+differ-requires-clause-row g c = subst (λ (xs : List Arc). All (IsArc c.args.graph.now) xs) (sym c.into-row.ensures) (All-filter (λ (a : Arc). a.head.0 == c.args.spot.node.0) (IsArc c.args.graph.now) c.args.rows.now.by_head c.requires.rows.arcs)
+
+pub differ-requires-clause-still : goal.differ-requires-clause-still
+differ-requires-clause-still g c = λ u e low apart.
+    let one : c.args.spot.first ≡ false = or-first c.args.spot.first c.args.touched (sym c.either.ensures ∙ c.if-either.false) in
+    let new = c.args.sides.new in
+    let old = c.args.sides.old in
+    sent-under g.U.Updater.answer c.args.program.now c.args.graph.now c.args.rows.now.by_head new.edges.now new.degrees.now new.values.now c.args.spot.round c.requires.new u e low
+    ∙ c.requires.aided.told.apart one u e low (ap (λ (bs : List Bool). get_or bs u false) (sym c.deref.ensures.value) ∙ apart)
+    ∙ sym (sent-under g.U.Updater.answer c.args.program.now c.args.graph.now c.args.rows.now.by_head old.edges.now old.degrees.now old.values.now c.args.spot.round (c.requires.old one) u e low)
+
+pub differ-requires-clause-turned : goal.differ-requires-clause-turned
+differ-requires-clause-turned g c = λ none.
+    let one : c.args.spot.first ≡ false = or-first c.args.spot.first c.args.touched (sym c.either.ensures ∙ c.if-either.false) in
+    views-same g.U.Updater.answer c.args.program.now c.args.graph.now c.args.rows.now.by_head c.args.spot.first c.args.sides.old.edges.now c.args.sides.new.edges.now c.args.spot.round c.args.aids.now.told c.requires.aided.told c.requires.rows.arcs c.args.spot.node.0 one (sym c.is_turned-turned.ensures ∙ none) c.into-row.result.now c.into-row.ensures
 
 pub returns : goal.returns
 returns g c =
@@ -28,8 +66,8 @@ returns g c =
     let v = c.args.spot.node.0 in
     let r = c.args.spot.round in
     touched-test g.U.Updater.answer p graph all old.edges.now new.edges.now v r c.args.spot.first c.args.touched c.in_ok-active.active
-    (all_brought p graph new.edges.now new.degrees.now new.values.now c.into.result.now) (all_brought p graph old.edges.now old.degrees.now old.values.now c.into.result.now)
+    (all_brought p graph new.edges.now new.degrees.now new.values.now c.into-row.result.now) (all_brought p graph old.edges.now old.degrees.now old.values.now c.into-row.result.now)
     c.requires.node c.requires.touched (sym c.either.ensures ∙ c.if-either.false)
-    (λ e. brought-row g.U.Updater.answer p graph all new.edges.now new.degrees.now new.values.now r c.requires.new v c.into.result.now c.requires.rows.arcs c.into.ensures)
-    (λ e. brought-row g.U.Updater.answer p graph all old.edges.now old.degrees.now old.values.now r (c.requires.old e) v c.into.result.now c.requires.rows.arcs c.into.ensures)
+    (λ e. brought-row g.U.Updater.answer p graph all new.edges.now new.degrees.now new.values.now r c.requires.new v c.into-row.result.now c.requires.rows.arcs c.into-row.ensures)
+    (λ e. brought-row g.U.Updater.answer p graph all old.edges.now old.degrees.now old.values.now r (c.requires.old e) v c.into-row.result.now c.requires.rows.arcs c.into-row.ensures)
     c.in_ok-active.ensures

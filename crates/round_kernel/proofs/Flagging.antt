@@ -1,0 +1,124 @@
+-- What is told of the nodes at round 0 and one round on.
+use Rattle.std.proofs.Common.{◌≡◌, ◌∙◌, ◌<◌, ◌≤◌, ◌+◌, ◌-◌, sym, ap, subst, ℕ, Bool, true, false, List, length, get_or, arith, inl, inr}
+use Rattle.std.specs.Prelude.{All, Contains, replicate}
+use Rattle.std.proofs.lemmas.Bool.{cases_lt, cases_Bool}
+use Rattle.std.proofs.lemmas.List.{get_or-replicate, get_or_past, length-replicate}
+use Rattle.std.proofs.lemmas.List.Elements.{All-weaker, All-contains}
+use Rattle.graph_model.specs.declared.value.Val.{Val}
+use Rattle.vertex_lang.specs.declared.arc.Arc.{Arc}
+use Rattle.vertex_lang.specs.Arcs.{outdeg}
+use Rattle.vertex_lang.specs.Expressions.{Answer, sent_by}
+use Rattle.vertex_lang.specs.Rounds.{value_at, lone}
+use Rattle.round_kernel.specs.declared.history.Change.{Change}
+use Rattle.round_kernel.specs.declared.round.Frame.{Frame}
+use Rattle.round_kernel.specs.declared.round.Lists.{Lists}
+use Rattle.round_kernel.specs.declared.told.Told.{Told}
+use Rattle.round_kernel.specs.Flags.{IsFlagged, AreLong, AreSet}
+use Rattle.round_kernel.specs.Frames.{IsFrame, StandAt, count_in, lone_at, old_lone_at, new_arcs}
+use Rattle.round_kernel.specs.Histories.{is_changed, HasChanges}
+use Rattle.round_kernel.specs.Sides.{in_view, arcs_in, IsTurned}
+use Rattle.round_kernel.specs.Telling.{StandsTold, sent_in}
+use Rattle.round_kernel.proofs.Brought.{sent-is}
+use Rattle.round_kernel.proofs.Calm.{same-or-turned}
+use Rattle.round_kernel.proofs.Filling.{unchanged-at}
+use Rattle.round_kernel.proofs.Waiting.{clash}
+
+-- ---- a round
+
+module _ (answer : Answer) (f : Frame) (r : ℕ) (touched : ℕ → Bool) (lists : Lists) (at : StandAt answer f r touched lists) where
+  pub long-at : AreLong (count_in f) lists
+  long-at = record {
+    old_values = at.old_sized.values_size;
+    new_values = at.new_now.sized.values_size;
+    old_degrees = at.old_sized.degrees_size;
+    new_degrees = at.new_now.sized.degrees_size;
+  }
+
+  -- a node without the flag sends the same in the round of both views
+  pub flag-tells : (u : ℕ) (flag : Bool) → u < count_in f → f.first ≡ false → IsFlagged f lists u flag → flag ≡ false → (e : ℕ)
+      → sent_in answer f.program.now f.graph.now (new_arcs f) r u e ≡ sent_in answer f.program.now f.graph.now (arcs_in f.rows.now.by_head f.old.now) r u e
+  flag-tells u flag low first right unset e =
+      sym (sent-is answer f.program.now f.graph.now f.rows.now.by_head f.new.now lists.new_degrees.items lists.new_now.items r at.new_now u e low)
+      ∙ sym (right unset e)
+      ∙ sent-is answer f.program.now f.graph.now f.rows.now.by_head f.old.now lists.old_degrees.items lists.old_now.items r (at.old_now first) u e low
+
+-- ---- round 0
+
+all-zero : (n u : ℕ) → ◌≡◌ {A = ℕ} (get_or (replicate n 0) u 0) 0
+all-zero n u = elim (cases_lt u n) [
+  | inl low ↦ get_or-replicate n u 0 0 low
+  | inr high ↦ get_or_past (replicate n 0) u 0 (omega (arith, high, length-replicate {A = ℕ} n 0))
+]
+
+pub told-start : (answer : Answer) (f : Frame) (touched : ℕ → Bool) (lists : Lists) → IsFrame answer f f.limit → StandAt answer f 0 touched lists → (told : Told) (n : ℕ) → n ≡ count_in f
+    → length told.apart.items ≡ count_in f → ((u : ℕ) → u < count_in f → IsFlagged f lists u (get_or told.apart.items u false)) → told.moved.items ≡ replicate n 0
+    → length told.turned.items ≡ count_in f → All (λ a. get_or told.turned.items a.head.0 false ≡ true) f.turned.now → StandsTold answer f 0 told
+told-start answer f touched lists frame at told n count size flags moved turned heads = record {
+  apart_size = size;
+  moved_size = ap (λ (ns : List ℕ). length ns) moved ∙ length-replicate {A = ℕ} n 0 ∙ count;
+  turned_size = turned;
+  apart = λ first u e low unset. flag-tells answer f 0 touched lists at u (get_or told.apart.items u false) low first (flags u low) unset e;
+  moved_past = λ u. omega (arith, ap (λ (ns : List ℕ). get_or ns u 0) moved, all-zero n u);
+  moved = λ later. absurd (omega (arith, later));
+  turned = λ first. All-weaker (λ (a : Arc). IsTurned f.old.now f.new.now a → Contains f.turned.now a)
+      (λ (a : Arc). get_or told.turned.items a.head.0 false ≡ false → in_view f.new.now a ≡ in_view f.old.now a)
+      (λ a h off. sym (same-or-turned (in_view f.old.now a) (in_view f.new.now a)
+      (λ t. clash (get_or told.turned.items a.head.0 false) off (All-contains (λ (b : Arc). get_or told.turned.items b.head.0 false ≡ true) f.turned.now a heads (h t)))))
+      f.rows.now.by_head (frame.turned first);
+}
+
+-- ---- one round on
+
+module _ (answer : Answer) (f : Frame) (r : ℕ) (touched : ℕ → Bool) (lists : Lists) (at : StandAt answer f (r + 1) touched lists) (new old : List Change)
+    (news : HasChanges (count_in f) (lone_at answer f r) (lone_at answer f (r + 1)) new)
+    (olds : f.first ≡ false → HasChanges (count_in f) (old_lone_at answer f r) (old_lone_at answer f (r + 1)) old) where
+  -- a node sends what it sent, where it doesn't change
+  still-sent : (arcs : List Arc) (changes : List Change) (u e : ℕ) → u < count_in f → HasChanges (count_in f) (lone answer f.program.now f.graph.now arcs r) (lone answer f.program.now f.graph.now arcs (r + 1)) changes
+      → is_changed u changes ≡ false → sent_in answer f.program.now f.graph.now arcs (r + 1) u e ≡ sent_in answer f.program.now f.graph.now arcs r u e
+  still-sent arcs changes u e low has off = ap (λ (v : Val). sent_by f.program.now f.graph.now u v (outdeg arcs u) e)
+      (unchanged-at (count_in f) (lone answer f.program.now f.graph.now arcs r) (lone answer f.program.now f.graph.now arcs (r + 1)) changes u low has off)
+
+  module _ (was mid next : Told) (told : StandsTold answer f r was)
+      (apart : AreSet (IsFlagged f lists) false new was.apart.items mid.apart.items) (moved : AreSet (λ u to. to ≡ r + 1) 0 new was.moved.items mid.moved.items)
+      (parted : AreSet (IsFlagged f lists) false old mid.apart.items next.apart.items) (kept : next.moved ≡ mid.moved) (turned : next.turned ≡ was.turned) where
+    apart-next : f.first ≡ false → (u e : ℕ) → u < count_in f → get_or next.apart.items u false ≡ false
+        → sent_in answer f.program.now f.graph.now (new_arcs f) (r + 1) u e ≡ sent_in answer f.program.now f.graph.now (arcs_in f.rows.now.by_head f.old.now) (r + 1) u e
+    apart-next first u e low unset = elim (cases_Bool (is_changed u old)) [
+      | inl listed ↦ flag-tells answer f (r + 1) touched lists at u (get_or next.apart.items u false) low first (parted.right u listed) unset e
+      | inr off ↦
+          let before : get_or mid.apart.items u false ≡ false = sym (parted.others u off) ∙ unset in
+          elim (cases_Bool (is_changed u new)) [
+            | inl listed ↦ flag-tells answer f (r + 1) touched lists at u (get_or mid.apart.items u false) low first (apart.right u listed) before e
+            | inr out ↦ still-sent (new_arcs f) new u e low news out ∙ told.apart first u e low (sym (apart.others u out) ∙ before)
+                ∙ sym (still-sent (arcs_in f.rows.now.by_head f.old.now) old u e low (olds first) off)
+          ]
+    ]
+
+    same-moved : (u : ℕ) → get_or next.moved.items u 0 ≡ get_or mid.moved.items u 0
+    same-moved u = ap (λ v. get_or v.items u 0) kept
+
+    past-next : (u : ℕ) → get_or next.moved.items u 0 ≤ r + 1
+    past-next u = elim (cases_Bool (is_changed u new)) [
+      | inl listed ↦ omega (arith, same-moved u, moved.right u listed)
+      | inr out ↦ omega (arith, same-moved u, moved.others u out, told.moved_past u)
+    ]
+
+    moved-next : (u : ℕ) → u < count_in f → (get_or next.moved.items u 0 ≡ r + 1 → ⊥)
+        → value_at (lone_at answer f (r + 1)) u ≡ value_at (lone_at answer f (r + 1 - 1)) u
+    moved-next u low stays = elim (cases_Bool (is_changed u new)) [
+      | inl listed ↦ absurd (stays (same-moved u ∙ moved.right u listed))
+      | inr out ↦
+          let back : r ≡ r + 1 - 1 = omega arith in
+          unchanged-at (count_in f) (lone_at answer f r) (lone_at answer f (r + 1)) new u low news out ∙ ap (λ (k : ℕ). value_at (lone_at answer f k) u) back
+    ]
+
+    pub told-next : StandsTold answer f (r + 1) next
+    told-next = record {
+      apart_size = parted.size ∙ apart.size ∙ told.apart_size;
+      moved_size = ap (λ v. length v.items) kept ∙ moved.size ∙ told.moved_size;
+      turned_size = ap (λ v. length v.items) turned ∙ told.turned_size;
+      apart = apart-next;
+      moved_past = past-next;
+      moved = λ later u low stays. moved-next u low stays;
+      turned = λ first. subst (λ v. All (λ a. get_or v.items a.head.0 false ≡ false → in_view f.new.now a ≡ in_view f.old.now a) f.rows.now.by_head) (sym turned) (told.turned first);
+    }

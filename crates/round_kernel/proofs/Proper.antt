@@ -1,0 +1,37 @@
+-- No property of an edge is the number that stands for none.
+use Rattle.std.specs.Prelude.{◌≡◌, ◌≢◌, nat_lt, if◌then◌else◌, ℕ, ℤ, Bool, true, false, length}
+use Rattle.std.specs.Bool.{Decides}
+use Rattle.std.specs.Cmp.{signed_Decides}
+use Rattle.std.specs.Ordering.{int_eq}
+use Rattle.std.proofs.Common.{refl}
+use Rattle.std.proofs.lemmas.Bool.{cond_both, ltb-true}
+use Rattle.graph_model.specs.declared.cell.Kind.{Kind}
+use Rattle.graph_model.specs.declared.value.Val.{Val}
+use Rattle.graph_model.specs.declared.value.Val.TheVariants.{Nil, Num}
+use Rattle.graph_model.specs.GraphData.{GraphData, Cell, HasEdgeCells, IsCellOf, kind_at, edge_cell_of}
+use Rattle.vertex_lang.specs.Values.{lowest_number, value_of_cell}
+use Rattle.round_kernel.specs.Numbers.{value_in, code_of, AreProper}
+
+-- the number of the value gives it back
+abbrev IsProper : Val → Type 0
+IsProper v = value_in (code_of v) ≡ v
+
+kept-number : (z : ℤ) → z ≢ lowest_number → IsProper (Num z)
+kept-number z other = number-by (int_eq z lowest_number) (signed_Decides z lowest_number) where
+  number-by : (b : Bool) → Decides b (z ≡ lowest_number) → (if b then Nil else Num z) ≡ Num z
+  number-by true same = absurd (other (same.0 refl))
+  number-by false same = refl
+
+kept-cell : (kind : Kind) (c : Cell) → IsCellOf kind c → IsProper (value_of_cell c)
+kept-cell kind Cell.absent h = refl
+kept-cell kind (Cell.int z) h = kept-number z h.1
+kept-cell kind (Cell.str bytes) h = refl
+kept-cell kind (Cell.bool b) h = refl
+
+-- no cell is the lowest number
+pub cells-proper : (graph : GraphData) (column : ℕ) → HasEdgeCells graph → AreProper graph column
+cells-proper graph column cells e low =
+    let v = value_of_cell (edge_cell_of graph e column) in
+    cond_both (nat_lt column (length graph.edge_columns)) v Nil IsProper
+    (λ here. kept-cell (kind_at graph.edge_columns column) (edge_cell_of graph e column) (cells.each e column low (ltb-true column (length graph.edge_columns) here)))
+    (λ past. refl)

@@ -1,0 +1,42 @@
+-- What is kept of the arcs of a view and of the values of a round, so that a node's messages are found fast.
+use Rattle.std.specs.Prelude.{◌≡◌, ◌<◌, ⊤, ℕ, ℤ, Bool, List, length}
+use Rattle.graph_model.specs.declared.number.NodeNo.{NodeNo}
+use Rattle.graph_model.specs.GraphData.{GraphData}
+use Rattle.vertex_lang.specs.declared.arc.Arc.{Arc}
+use Rattle.vertex_lang.specs.declared.program.Program.{Program}
+use Rattle.vertex_lang.specs.Expressions.{Answer}
+use Rattle.vertex_lang.specs.Rounds.{value_at, lone}
+use Rattle.round_kernel.specs.declared.feed.Feed.{Feed}
+use Rattle.round_kernel.specs.declared.feed.Feed.TheVariants as feeds
+use Rattle.round_kernel.specs.declared.live.Live.{Live}
+use Rattle.round_kernel.specs.declared.live.Link.{Link}
+use Rattle.round_kernel.specs.declared.round.Frame.{Frame}
+use Rattle.round_kernel.specs.Links.{tail_of, link_of}
+use Rattle.round_kernel.specs.Lives.{AreLive}
+use Rattle.round_kernel.specs.Numbers.{number_at, AreProper, IsStep}
+use Rattle.round_kernel.specs.Sides.{arcs_in}
+use Rattle.round_kernel.specs.Telling.{sent_in}
+
+module _ (answer : Answer) (p : Program) (graph : GraphData) (all : List Arc) (edges : List Bool) (r : ℕ) where
+  -- the numbers are those of the messages of the round, which are the same along all arcs that leave a node
+  pub record HasMessages (live : Live NodeNo) (numbers : List ℤ) : Type 0 where
+    pub rows : AreLive tail_of all edges (length graph.ids) live
+    pub size : length numbers ≡ length graph.ids
+    pub each : (u e : ℕ) → u < length graph.ids → number_at numbers u ≡ sent_in answer p graph (arcs_in all edges) r u e
+
+  -- the numbers are those of the values of the round, and the message is the value and a property of the edge added
+  pub record HasValues (column : ℕ) (live : Live Link) (numbers : List ℤ) : Type 0 where
+    pub rows : AreLive (link_of graph column) all edges (length graph.ids) live
+    pub proper : AreProper graph column
+    pub step : IsStep p column
+    pub size : length numbers ≡ length graph.ids
+    pub each : (u : ℕ) → u < length graph.ids → number_at numbers u ≡ value_at (lone answer p graph (arcs_in all edges) r) u
+
+  abbrev pub IsFed : Feed → Type 0
+  IsFed (feeds.Messages live numbers) = HasMessages live numbers.items
+  IsFed (feeds.Steps column live numbers) = HasValues column live numbers.items
+  IsFed feeds.Nothing = ⊤
+
+-- the same of a step
+abbrev pub StandsFed : Answer → Frame → ℕ → Feed → Type 0
+StandsFed answer f r feed = IsFed answer f.program.now f.graph.now f.rows.now.by_head f.new.now r feed

@@ -1,0 +1,50 @@
+-- A value as one number: the lowest one stands for none.
+use Rattle.std.specs.Prelude.{◌≡◌, ◌<◌, ℕ, ℤ, pos, true, if◌then◌else◌, List, length, get_or, map, filter}
+use Rattle.std.specs.Ordering.{int_eq}
+use Rattle.graph_model.specs.declared.number.NodeNo.{NodeNo}
+use Rattle.graph_model.specs.declared.value.Val.{Val}
+use Rattle.graph_model.specs.declared.value.Val.TheVariants.{Nil, Num}
+use Rattle.graph_model.specs.GraphData.{GraphData}
+use Rattle.vertex_lang.specs.declared.program.Program.{Program}
+use Rattle.vertex_lang.specs.Arcs.{is_sent}
+use Rattle.vertex_lang.specs.Expressions.{sent_by, edge_value}
+use Rattle.vertex_lang.specs.Rounds.{value_at}
+use Rattle.vertex_lang.specs.Values.{added, lowest_number}
+use Rattle.round_kernel.specs.declared.history.Change.{Change}
+use Rattle.round_kernel.specs.Histories.{is_changed}
+
+abbrev pub value_in : ℤ → Val
+value_in z = if int_eq z lowest_number then Nil else Num z
+
+-- and back
+abbrev pub code_of : Val → ℤ
+code_of Nil = lowest_number
+code_of (Num z) = z
+
+-- that of a node
+abbrev pub number_at : List ℤ → ℕ → Val
+number_at numbers u = value_in (get_or numbers u (pos 0))
+
+-- they are the numbers of these values
+pub record AreNumbers (values : List Val) (numbers : List ℤ) : Type 0 where
+  pub size : length numbers ≡ length values
+  pub each : (u : ℕ) → u < length values → number_at numbers u ≡ value_at values u
+
+-- those of the nodes in the list are of these values, and the others are as they were
+pub record AreRenewed (values : List Val) (changes : List Change) (before after : List ℤ) : Type 0 where
+  pub size : length after ≡ length before
+  pub each : (u : ℕ) → u < length before → number_at after u ≡ (if is_changed u changes then value_at values u else number_at before u)
+
+-- what arcs from these tails bring, where each brings the number of its tail
+abbrev pub sent_from : List ℤ → List NodeNo → List Val
+sent_from numbers tails = filter is_sent (map (λ (t : NodeNo). number_at numbers t.0) tails)
+
+-- ---- messages that are a value and a property of the edge added
+
+-- the message is the value and the property of the edge in this column, added
+abbrev pub IsStep : Program → ℕ → Type 0
+IsStep p column = (graph : GraphData) (u : ℕ) (v : Val) (d e : ℕ) → sent_by p graph u v d e ≡ added true v (edge_value graph e column)
+
+-- no edge has the lowest number there
+abbrev pub AreProper : GraphData → ℕ → Type 0
+AreProper graph column = (e : ℕ) → e < length graph.ends → value_in (code_of (edge_value graph e column)) ≡ edge_value graph e column

@@ -1,0 +1,48 @@
+-- Which nodes may send something else in two rounds.
+use Rattle.std.specs.Prelude.{◌≡◌, ◌≢◌, ◌==◌, ◌<◌, ◌≤◌, ◌-◌, ℕ, Bool, false, List, length, get_or, All}
+use Rattle.graph_model.specs.declared.value.Val.{Val}
+use Rattle.graph_model.specs.GraphData.{GraphData}
+use Rattle.vertex_lang.specs.declared.arc.Arc.{Arc}
+use Rattle.vertex_lang.specs.declared.program.Program.{Program}
+use Rattle.vertex_lang.specs.Arcs.{outdeg}
+use Rattle.vertex_lang.specs.Expressions.{Answer, sent_by}
+use Rattle.vertex_lang.specs.Rounds.{value_at, lone}
+use Rattle.round_kernel.specs.declared.round.Frame.{Frame}
+use Rattle.round_kernel.specs.declared.told.Told.{Told}
+use Rattle.round_kernel.specs.declared.told.Movers.{Movers}
+use Rattle.round_kernel.specs.declared.told.Movers.TheVariants as movers
+use Rattle.round_kernel.specs.Sides.{in_view, arcs_in}
+
+-- the message of a node along an edge in a round of the plain run over these arcs
+abbrev pub sent_in : Answer → Program → GraphData → List Arc → ℕ → ℕ → ℕ → Val
+sent_in answer p graph arcs r u e = sent_by p graph u (value_at (lone answer p graph arcs r) u) (outdeg arcs u) e
+
+-- a node that isn't told apart sends the same in both views; one that hasn't moved has the value of the round before; and
+-- all arcs into a node to which none is turned are in both views or in none
+pub record IsTold (answer : Answer) (p : Program) (graph : GraphData) (all : List Arc) (first : Bool) (old new : List Bool) (r : ℕ) (told : Told) : Type 0 where
+  pub apart_size : length told.apart.items ≡ length graph.ids
+  pub moved_size : length told.moved.items ≡ length graph.ids
+  pub turned_size : length told.turned.items ≡ length graph.ids
+  pub apart : first ≡ false → (u e : ℕ) → u < length graph.ids → get_or told.apart.items u false ≡ false → sent_in answer p graph (arcs_in all new) r u e ≡ sent_in answer p graph (arcs_in all old) r u e
+  pub moved_past : (u : ℕ) → get_or told.moved.items u 0 ≤ r
+  pub moved : 0 < r → (u : ℕ) → u < length graph.ids → get_or told.moved.items u 0 ≢ r → value_at (lone answer p graph (arcs_in all new) r) u ≡ value_at (lone answer p graph (arcs_in all new) (r - 1)) u
+  pub turned : first ≡ false → All (λ a. get_or told.turned.items a.head.0 false ≡ false → in_view new a ≡ in_view old a) all
+
+-- the same of a step
+abbrev pub StandsTold : Answer → Frame → ℕ → Told → Type 0
+StandsTold answer f r told = IsTold answer f.program.now f.graph.now f.rows.now.by_head f.first f.old.now f.new.now r told
+
+-- a node may send something else in the one of two rounds than in the other
+abbrev pub moves : Movers → ℕ → Bool
+moves (movers.Views apart) u = get_or apart.now u false
+moves (movers.Rounds moved r) u = get_or moved.now u 0 == r
+
+-- there is something told of the node
+abbrev pub InMovers : Movers → ℕ → Type 0
+InMovers (movers.Views apart) u = u < length apart.now
+InMovers (movers.Rounds moved r) u = u < length moved.now
+
+-- the others send the same, along each edge
+abbrev pub AreStill : Program → GraphData → Movers → List ℕ → List Val → List ℕ → List Val → Type 0
+AreStill p graph movers degrees values counts others = (u e : ℕ) → u < length graph.ids → moves movers u ≡ false
+    → sent_by p graph u (value_at values u) (get_or degrees u 0) e ≡ sent_by p graph u (value_at others u) (get_or counts u 0) e

@@ -1,0 +1,142 @@
+//! Values as numbers of eight bytes, so that those of many nodes stay near.
+
+ghost use Rattle.std.specs.Prelude.{◌≡◌, ◌<◌, ◌^◌, true, ◌∷◌, [], length, All, IfOk, IfSome, IsTrue};
+ghost use Rattle.vertex_lang.specs.declared.program.Expr.TheVariants.{EdgeProp};
+ghost use Rattle.vertex_lang.specs.Expressions.{edge_value};
+ghost use Rattle.vertex_lang.specs.Values.{added};
+ghost use Rattle.round_kernel.specs.Numbers.{AreNumbers, AreRenewed, AreProper, IsStep, sent_from, value_in, code_of};
+ghost use Rattle.round_kernel.specs.Links.{sent_over};
+ghost use Rattle.round_kernel.specs.Tallies.{tally_of};
+
+use crate::history::Change;
+use crate::live::Link;
+use crate::span::{NONE, Span};
+use crate::tally::{Tally, clamp_number};
+use graph_model::{CellRef, EdgeNo, Graph, NodeNo, Val};
+use std::alloc::Global;
+use surge_outside::NoMemory;
+use vertex_lang::{Expr, Gather, Program};
+
+/// A value as one number, where it is not the one that stands for none.
+fn number_of(value: Val) -> Option<i64>
+    ensures { IfSome result (λ z. value_in z ≡ value) }
+{
+    match value {
+        Val::Nil => Some(NONE),
+        Val::Num(number) => { if number == NONE { None } else { Some(number) } }
+    }
+}
+
+/// All values as numbers, or nothing where one has none. The error is want of memory.
+pub(crate) fn numbers_of(alloc: Global, values: &[Val]) -> Result<Option<Vec<i64>>, NoMemory>
+    ensures { IfOk result (λ found. IfSome found (λ n. AreNumbers values.now n.items)) }
+{
+    let mut numbers = Vec::with_capacity(alloc, values.len())?;
+    for value in values {
+        match number_of(*value) {
+            Some(number) => numbers.push(number)?,
+            None => return Ok(None),
+        }
+    }
+    Ok(Some(numbers))
+}
+
+/// Gives each node that changes the number of its value, and tells whether each has one.
+pub(crate) fn renew(numbers: &mut [i64], values: &[Val], changes: &[Change]) -> bool
+    requires size { length numbers.old ≡ length values.now }
+    requires within { All (λ c. c.node.0 < length values.now) changes.now }
+    ensures { IsTrue result → AreRenewed values.now changes.now numbers.old numbers.new }
+{
+    for change in changes {
+        let place = change.node.0 as usize;
+        match number_of(values[place]) {
+            Some(number) => numbers[place] = number,
+            None => return false,
+        }
+    }
+    true
+}
+
+/// What comes of arcs that bring the numbers of their tails.
+pub(crate) fn tally_tails(kind: Gather, numbers: &[i64], tails: &[NodeNo]) -> Tally
+    requires few { length tails.now < 2 ^ 32 }
+    requires tails { All (λ t. t.0 < length numbers.now) tails.now }
+    ensures { result ≡ tally_of kind (sent_from numbers.now tails.now) }
+{
+    let mut span = Span::new();
+    for tail in tails {
+        span = span.with(numbers[tail.0 as usize]);
+    }
+    span.tally(kind)
+}
+
+/// What comes of arcs that bring the number of their tail and their own number added.
+pub(crate) fn tally_links(kind: Gather, numbers: &[i64], links: &[Link]) -> Tally
+    requires few { length links.now < 2 ^ 32 }
+    requires tails { All (λ l. l.tail.0 < length numbers.now) links.now }
+    ensures { result ≡ tally_of kind (sent_over numbers.now links.now) }
+{
+    let mut span = Span::new();
+    for link in links {
+        span = span.with(sum_of(numbers[link.tail.0 as usize], link.step));
+    }
+    span.tally(kind)
+}
+
+// The number of the sum of two values. Of none it is none.
+fn sum_of(left: i64, right: i64) -> i64
+    ensures { value_in result ≡ added true (value_in left) (value_in right) }
+{
+    if left == NONE {
+        NONE
+    } else if right == NONE {
+        NONE
+    } else {
+        clamp_number(i128::from(left) + i128::from(right))
+    }
+}
+
+/// Where the message is the value and a property of the edge added, the property's column.
+pub(crate) fn step_column(program: &Program) -> Option<u32>
+    ensures { IfSome result (IsStep program.now) }
+{
+    match &program.send {
+        Expr::Sum(first, rest) => match first.get() {
+            Expr::Value => only_property(rest.as_slice()),
+            _ => None,
+        },
+        _ => None,
+    }
+}
+
+// Where an edge's property alone is added, its column.
+fn only_property(rest: &[(bool, Expr)]) -> Option<u32>
+    ensures { IfSome result (λ c. rest.now ≡ (true, EdgeProp c) ∷ []) }
+{
+    if rest.len() != 1 {
+        return None;
+    }
+    let (plus, expr) = &rest[0];
+    if !*plus {
+        return None;
+    }
+    match expr {
+        Expr::EdgeProp(column) => Some(*column),
+        _ => None,
+    }
+}
+
+/// A property of an edge as one number.
+pub(crate) fn step_of(graph: &Graph, edge: EdgeNo, column: u32) -> i64
+    requires { edge.0 < length graph.now.ends }
+    ensures { result ≡ code_of (edge_value graph.now edge.0 column) }
+{
+    let place = column as usize;
+    if place >= graph.edge_columns().len() {
+        return NONE;
+    }
+    match graph.edge_cell(edge, place) {
+        CellRef::Int(number) => number,
+        _ => NONE,
+    }
+}

@@ -1,0 +1,107 @@
+//! What messages come to that are kept as numbers of eight bytes.
+
+ghost use Rattle.std.specs.Prelude.{◌≡◌, ◌<◌, ◌^◌, ◌==◌, if◌then◌else◌, [], List, fold};
+ghost use Rattle.graph_model.specs.declared.value.Val.TheVariants.{Nil, Num};
+ghost use Rattle.round_kernel.specs.Numbers.{value_in};
+ghost use Rattle.round_kernel.specs.Spans.{IsSpan, sums_of, with_message};
+ghost use Rattle.round_kernel.specs.Tallies.{IsBounded, tally_of};
+ghost use Rattle.vertex_lang.specs.Mail.{extreme_with};
+
+use crate::tally::Tally;
+use graph_model::Val;
+use vertex_lang::Gather;
+
+/// The number that stands for none.
+pub(crate) const NONE: i64 = i64::MIN;
+
+/// What messages come to, whichever way they are gathered: so going over the arcs into a node asks nothing of how.
+#[derive(Clone, Copy)]
+pub(crate) struct Span {
+    /// The least message, or the greatest number where there is no message.
+    pub(crate) least: i64,
+    /// The greatest message, or the number that stands for none.
+    pub(crate) greatest: i64,
+    /// The exact sum of the messages.
+    pub(crate) total: i128,
+    /// How many messages there are.
+    pub(crate) count: u64,
+}
+
+impl Span {
+    /// Of no message.
+    pub(crate) fn new() -> Span
+        ensures span { IsSpan result [] }
+        ensures bounded { IsBounded (sums_of result) }
+    {
+        Span {
+            least: i64::MAX,
+            greatest: NONE,
+            total: 0,
+            count: 0,
+        }
+    }
+
+    /// With the message that is this number. None is not sent.
+    pub(crate) fn with(self, number: i64) -> Span
+        requires room { self.count < 2 ^ 32 }
+        requires bounded { IsBounded (sums_of self) }
+        ensures span { (ms : List Val) → IsSpan self ms → IsSpan result (with_message ms (value_in number)) }
+        ensures bounded { IsBounded (sums_of result) }
+    {
+        if number == NONE {
+            self
+        } else {
+            Span {
+                least: self.least.min(number),
+                greatest: self.greatest.max(number),
+                total: self.total + i128::from(number),
+                count: self.count + 1,
+            }
+        }
+    }
+
+    /// What the messages come to where they are gathered so.
+    pub(crate) fn tally(self, kind: Gather) -> Tally
+        ensures { (ms : List Val) → IsSpan self ms → result ≡ tally_of kind ms }
+    {
+        Tally {
+            extreme: self.extreme(kind),
+            total: self.total,
+            count: self.count,
+        }
+    }
+
+    // The least or the greatest message, where the one or the other is gathered.
+    fn extreme(self, kind: Gather) -> Val
+        ensures { (ms : List Val) → IsSpan self ms → result ≡ fold (extreme_with kind) Nil ms }
+    {
+        match kind {
+            Gather::Min => self.lowest(),
+            Gather::Max => value_of(self.greatest),
+            Gather::Sum => Val::Nil,
+            Gather::Count => Val::Nil,
+        }
+    }
+
+    // The least message.
+    fn lowest(self) -> Val
+        ensures { result ≡ (if self.count == 0 then Nil else Num self.least) }
+    {
+        if self.count == 0 {
+            Val::Nil
+        } else {
+            Val::Num(self.least)
+        }
+    }
+}
+
+// The value for which a number stands.
+fn value_of(number: i64) -> Val
+    ensures { result ≡ value_in number }
+{
+    if number == NONE {
+        Val::Nil
+    } else {
+        Val::Num(number)
+    }
+}

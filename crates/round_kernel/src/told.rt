@@ -1,0 +1,184 @@
+//! Which nodes may send something else in two rounds: in those of two views, or in a round and the one before it.
+
+ghost use Rattle.std.specs.Prelude.{◌≡◌, ◌<◌, ◌+◌, true, false, length, get_or, All, IfOk, IsTrue};
+ghost use Rattle.vertex_lang.specs.Ignoring.{IgnoresOutdeg};
+ghost use Rattle.round_kernel.specs.Frames.{IsFrame, StandAt, count_in, lone_at, old_lone_at, was_touched_at};
+ghost use Rattle.round_kernel.specs.Histories.{HasChanges};
+ghost use Rattle.round_kernel.specs.Telling.{StandsTold, InMovers, moves};
+ghost use Rattle.round_kernel.specs.Flags.{IsFlagged, AreLong, AreSet};
+
+use crate::history::Change;
+use crate::message::is_other;
+use crate::round::{Frame, Lists};
+use graph_model::NodeNo;
+use std::alloc::Global;
+use surge_outside::NoMemory;
+use vertex_lang::{Arc, Updater};
+
+/// What is told of each node.
+#[derive(Drop)]
+pub(crate) struct Told {
+    /// Whether it may send something else in the new view than in the view before.
+    pub(crate) apart: Vec<bool>,
+    /// The last round to which its value changed in the new view, and 0 where it never did.
+    pub(crate) moved: Vec<u32>,
+    /// Whether an arc comes to it that is in one of the two views alone.
+    pub(crate) turned: Vec<bool>,
+}
+
+impl Told {
+    /// At round 0. The error is want of memory.
+    pub(crate) fn new<U: Updater>(
+        alloc: Global,
+        frame: Frame<'_>,
+        lists: &Lists,
+        _updater: &U,
+    ) -> Result<Told, NoMemory>
+        requires frame { IsFrame U.answer frame frame.limit }
+        requires at { StandAt U.answer frame 0 (was_touched_at U.answer frame 0) lists.now }
+        ensures { IfOk result (StandsTold U.answer frame.entry 0) }
+    {
+        let count = frame.graph.node_count();
+        let mut apart = Vec::with_capacity(alloc, count as usize)?;
+        for node in 0..count {
+            apart.push(is_apart(frame, lists, NodeNo(node)))?;
+        }
+        let moved = vec![in alloc; 0u32; count as usize]?;
+        let turned = heads_of(alloc, count as usize, frame.turned)?;
+        Ok(Told {
+            apart,
+            moved,
+            turned,
+        })
+    }
+
+    /// Whether an arc comes to a node that is in one of the two views alone.
+    pub(crate) fn is_turned(&self, node: NodeNo) -> bool
+        requires { node.0 < length self.now.turned.items }
+        ensures { result ≡ get_or self.now.turned.items node.0 false }
+    {
+        self.turned[node.0 as usize]
+    }
+
+    /// One round on, given what changes to it in the new view and in the view before, and the lists as they stand in
+    /// it.
+    pub(crate) fn go_on<U: Updater>(
+        &mut self,
+        frame: Frame<'_>,
+        round: u32,
+        lists: &Lists,
+        new: &[Change],
+        old: &[Change],
+        _updater: &U,
+    )
+        requires frame { IsFrame U.answer frame frame.limit }
+        requires round { round < frame.limit }
+        requires at { StandAt U.answer frame (round + 1) (was_touched_at U.answer frame (round + 1)) lists.now }
+        requires new { HasChanges (count_in frame) (lone_at U.answer frame round) (lone_at U.answer frame (round + 1)) new.now }
+        requires old { frame.first ≡ false → HasChanges (count_in frame) (old_lone_at U.answer frame round) (old_lone_at U.answer frame (round + 1)) old.now }
+        requires within { All (λ c. c.node.0 < count_in frame) old.now }
+        requires told { StandsTold U.answer frame round self.old }
+        ensures { StandsTold U.answer frame.entry (round + 1) self.new }
+    {
+        self.move_all(frame, round + 1, lists, new);
+        self.part_all(frame, lists, old);
+    }
+
+    // Nodes change in the new view to a round: that they did so, and whether they may send something else in both
+    // views.
+    fn move_all(&mut self, frame: Frame<'_>, round: u32, lists: &Lists, changes: &[Change])
+        requires within { All (λ c. c.node.0 < count_in frame) changes.now }
+        requires long { AreLong (count_in frame) lists.now }
+        requires degree { frame.by_degree ≡ false → IgnoresOutdeg frame.program.now.send }
+        requires apart { length self.old.apart.items ≡ count_in frame }
+        requires moved { length self.old.moved.items ≡ count_in frame }
+        ensures apart { AreSet (IsFlagged frame.entry lists.now) false changes.now
+            self.old.apart.items self.new.apart.items }
+        ensures moved { AreSet (λ u to. to ≡ round) 0 changes.now self.old.moved.items self.new.moved.items }
+        ensures turned { self.new.turned ≡ self.old.turned }
+    {
+        for change in changes {
+            let place = change.node.0 as usize;
+            self.moved[place] = round;
+            self.apart[place] = is_apart(frame, lists, change.node);
+        }
+    }
+
+    // Nodes change in the view before: whether they may send something else in both views.
+    fn part_all(&mut self, frame: Frame<'_>, lists: &Lists, changes: &[Change])
+        requires within { All (λ c. c.node.0 < count_in frame) changes.now }
+        requires long { AreLong (count_in frame) lists.now }
+        requires degree { frame.by_degree ≡ false → IgnoresOutdeg frame.program.now.send }
+        requires apart { length self.old.apart.items ≡ count_in frame }
+        ensures apart { AreSet (IsFlagged frame.entry lists.now) false changes.now
+            self.old.apart.items self.new.apart.items }
+        ensures moved { self.new.moved ≡ self.old.moved }
+        ensures turned { self.new.turned ≡ self.old.turned }
+    {
+        for change in changes {
+            self.apart[change.node.0 as usize] = is_apart(frame, lists, change.node);
+        }
+    }
+}
+
+// Whether a node may send something else in both views: where its value or the number of arcs that leave it differs.
+fn is_apart(frame: Frame<'_>, lists: &Lists, node: NodeNo) -> bool
+    requires node { node.0 < count_in frame }
+    requires long { AreLong (count_in frame) lists.now }
+    requires degree { frame.by_degree ≡ false → IgnoresOutdeg frame.program.now.send }
+    ensures { IsFlagged frame.entry lists.now node.0 result }
+{
+    let place = node.0 as usize;
+    if is_other(lists.old_now[place], lists.new_now[place]) {
+        return true;
+    }
+    frame.by_degree && lists.old_degrees[place] != lists.new_degrees[place]
+}
+
+// The heads of these arcs.
+fn heads_of(alloc: Global, size: usize, arcs: &[Arc]) -> Result<Vec<bool>, NoMemory>
+    requires { All (λ a. a.head.0 < size) arcs.now }
+    ensures size { IfOk result (λ heads. length heads.items ≡ size) }
+    ensures heads { IfOk result (λ heads. All (λ a. get_or heads.items a.head.0 false ≡ true) arcs.now) }
+{
+    let mut heads = vec![in alloc; false; size]?;
+    for arc in arcs {
+        heads[arc.head.0 as usize] = true;
+    }
+    Ok(heads)
+}
+
+/// The nodes that may send something else in the one of two rounds than in the other.
+#[derive(Clone, Copy)]
+pub(crate) enum Movers<'a> {
+    /// In the same round of two views: whether each node may.
+    Views(&'a [bool]),
+    /// In two rounds of one view: the last round to which each node's value changed, and the later of the two rounds.
+    Rounds(&'a [u32], u32),
+}
+
+impl Movers<'_> {
+    /// Whether a node may send something else.
+    pub(crate) fn moves(self, node: NodeNo) -> bool
+        requires { InMovers self node.0 }
+        ensures { result ≡ moves self.entry node.0 }
+    {
+        match self {
+            Movers::Views(apart) => apart[node.0 as usize],
+            Movers::Rounds(moved, round) => moved[node.0 as usize] == round,
+        }
+    }
+
+    /// Whether none of the tails of these arcs may send something else.
+    pub(crate) fn are_still(self, row: &[Arc]) -> bool
+        requires { All (λ a. InMovers self a.tail.0) row.now }
+        ensures { IsTrue result → All (λ a. moves self.entry a.tail.0 ≡ false) row.now }
+    {
+        for arc in row {
+            if self.moves(arc.tail) {
+                return false;
+            }
+        }
+        true
+    }
+}
