@@ -11,3 +11,4 @@ pub mod Parts
 pub mod PartLaws
 pub mod ChainLaws
 pub mod ForkLaws
+pub mod Routes

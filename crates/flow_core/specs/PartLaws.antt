@@ -25,7 +25,7 @@ times_part whole part same [] = refl
 times_part whole part same (x ∷ xs) = rw (same x, times_part whole part same xs) refl
 
 -- as many as the whole
-length_part : {X Y Z : Type 0} (whole : X → Y) (part : X → Z) (links : List X) → length (map part links) ≡ length (map whole links)
+pub length_part : {X Y Z : Type 0} (whole : X → Y) (part : X → Z) (links : List X) → length (map part links) ≡ length (map whole links)
 length_part whole part [] = refl
 length_part whole part (x ∷ xs) = omega (arith, length_part whole part xs)
 

@@ -59,7 +59,7 @@ fn push_expanded<A: Record, B: Record, E: Expand<A, B>>(
 }
 
 /// The batch of what a function gives for each record. It sorts once.
-fn flat_map_batch<A: Record, B: Record, E: Expand<A, B>>(
+pub(crate) fn flat_map_batch<A: Record, B: Record, E: Expand<A, B>>(
     alloc: Global,
     expand: &E,
     delta: &Batch<A>,

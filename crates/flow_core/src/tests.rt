@@ -6,8 +6,8 @@ ghost use Rattle.weighted.specs.Alike.{Alike};
 ghost use Rattle.flow_core.specs.Runs.{Run, Answers, IsFresh};
 
 use crate::{
-    Chain, Concat, Each, Expand, Filter, FlatMap, Fork, Keep, Map, NoCalls, Operator, Quiet, Side,
-    lawful, settled, settled_below,
+    Bypass, Chain, Concat, Each, Expand, Filter, FlatMap, Fork, Keep, Map, NoCalls, Operator,
+    Quiet, Side, lawful, settled, settled_below,
 };
 use lattice_time::{Pair, Position, Round, Time};
 use std::alloc::Global;
@@ -49,6 +49,18 @@ impl Expand<(u32, u32), u32> for Ends {
     fn expand(&self, edge: (u32, u32), into: &mut List<u32>) -> Result<(), NoMemory> {
         into.push(edge.0)?;
         into.push(edge.1)
+    }
+}
+
+/// The first end of an edge.
+#[derive(Drop)]
+struct FirstEnd;
+
+impl Expand<(u32, u32), u32> for FirstEnd {
+    ghost gives = { λ _ edge. edge.0 ∷ [] };
+
+    fn expand(&self, edge: (u32, u32), into: &mut List<u32>) -> Result<(), NoMemory> {
+        into.push(edge.0)
     }
 }
 
@@ -202,6 +214,20 @@ fn degrees<T: Time, U: Counted>(
     )
 }
 
+/// The number after the first end of each edge, and past it both ends.
+fn bypassed<T: Time, U: Counted>(
+    alloc: Global,
+    t: T,
+    delta: &Batch<(u32, u32)>,
+    updater: &mut U,
+) -> Result<Batch<u32>, NoMemory> {
+    let map: Map<Next, u32, u32, T, U> = Map::new(alloc, Next);
+    let flow: Bypass<Ends, FirstEnd, (u32, u32), Map<Next, u32, u32, T, U>> = Bypass::new::<T, U>(
+        alloc, Ends, FirstEnd, map,
+    );
+    first_step(flow, t, delta, updater)
+}
+
 /// The batch of records, each of weight 1.
 fn batch<R: Record>(alloc: Global, records: &[R]) -> Result<Batch<R>, NoMemory> {
     let mut entries = Vec::new(alloc);
@@ -272,6 +298,21 @@ fn flat_map_that_is_quiet(rt: HostRuntime) -> Result<(), Fail> {
     let made = degrees(alloc, at(1, 2), &delta, &mut NoCalls)?;
     let ends = [(1, Weight(1)), (2, Weight(2)), (3, Weight(3))];
     assert_eq!(rt; made.as_slice(), ends.as_slice());
+    Ok(())
+}
+
+#[test]
+fn bypass_of_a_map(rt: HostRuntime) -> Result<(), Fail> {
+    let alloc = rt.alloc();
+    let delta = batch(alloc, &[(1, 2), (4, 1)])?;
+    let made = bypassed(alloc, at(1, 2), &delta, &mut NoCalls)?;
+    let want = [
+        (1, Weight(2)),
+        (2, Weight(2)),
+        (4, Weight(1)),
+        (5, Weight(1)),
+    ];
+    assert_eq!(rt; made.as_slice(), want.as_slice());
     Ok(())
 }
 
