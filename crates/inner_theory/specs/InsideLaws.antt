@@ -1,0 +1,105 @@
+-- What the parts stand for gives the run of the reduce inside.
+use Rattle.std.specs.Prelude.{◌≡◌, ℕ, zero, suc, ◌+◌, ◌*◌, ◌<◌, ◌≤◌, Bool, true, false, IsTrue, List, [], ◌∷◌, ◌++◌, length, map, take, drop, if◌then◌else◌, refl}
+use Rattle.std.specs.declared.cmp.Ordering.{Ordering}
+use Rattle.std.proofs.Common.{arith, ap, sym, subst, ◌∙◌}
+use Rattle.lattice_time.specs.Lattice.{IsLattice}
+use Rattle.lattice_time.specs.declared.pair.Pair.{Pair}
+use Rattle.lattice_time.specs.declared.round.Round.{Round}
+use Rattle.weighted.specs.Alike.{Alike, Alike-refl, Alike-is, Alike-trans, Alike-append, Alike-mapped}
+use Rattle.weighted.specs.Batches.{IsBatch}
+use Rattle.trace_store.specs.Traces.{in_turn}
+use Rattle.flow_core.specs.Runs.{Step, Run, Every, NoneBelow, Answers, fed_to, made_to, times_of}
+use Rattle.flow_core.specs.Lists.{Every-append_front, Every-append_back}
+use Rattle.flow_core.specs.RunLaws.{times_of-append}
+use Rattle.flow_core.specs.Parts.{Link, link_whole, link_first, link_second, StandsByLinks}
+use Rattle.flow_core.specs.PartLaws.{lub_level, above_first, times_part}
+use Rattle.flow_core.specs.ChainLaws.{fed_first, made_first, made_second}
+use Rattle.flow_core.specs.Quietly.{StandsQuietly}
+use Rattle.reduce_theory.specs.Evaluated.{charged}
+use Rattle.loop_theory.specs.declared.input.LoopInput.{LoopInput}
+use Rattle.loop_theory.specs.declared.input.LoopInput.TheVariants.{Moving}
+use Rattle.loop_theory.specs.Inputs.{fixed, moving, as_moving, Alike-fixed, Alike-moving}
+use Rattle.loop_theory.specs.Loops.{after_rounds, pair_leq, pair_lub, pair_of, Exchange, Lap, IsLap, lap_step, steps_from, body_steps, StandsByLaps}
+use Rattle.loop_theory.specs.LoopLaws.{HoldsAtRound, seal_below, none_outer}
+use Rattle.inner_theory.specs.Inside.{BodyInside, LoopInside, rounds_from, all_rounds}
+
+no_base : (a b c d : ℕ) → a + b ≡ c → a ≡ 0 → b ≡ c
+no_base a b c d h k = omega arith
+
+-- ---- a part that charges nothing, and a reduce
+
+module _ {T I K V O : Type 0} (leq : T → T → Bool) (lub : T → T → T) (lattice : IsLattice leq lub) (tcmp : T → T → Ordering) (kcmp : K → K → Ordering) (vcmp : V → V → Ordering) (items : List (I × ℕ) → List ((K × V) × ℕ)) (first_seal seal : T) (first_due due : List T) (charge : ℕ) (First : Run T I (K × V) → Type 0) (Reduce : Run T (K × V) (K × O) → Type 0) where
+  pub body-inside : ((r : Run T I (K × V)) → First r → Answers leq lub items first_seal first_due r)
+      → ((r : Run T (K × V) (K × O)) → Reduce r → charge ≡ r.base + charged leq lub tcmp kcmp vcmp seal (take r.before r.steps) [] (drop r.before r.steps))
+      → ((r : Run T (K × V) (K × O)) → Reduce r → Every (λ s. IsBatch (in_turn kcmp vcmp) s.fed) r.steps)
+      → (run : Run T I (K × O)) → StandsByLinks (StandsQuietly First) Reduce run → seal ≡ first_seal
+      → BodyInside leq lub tcmp kcmp vcmp items (lub first_seal seal) (first_due ++ due) charge run
+  body-inside answers charges batched run h level =
+      let first_run : Run T I (K × V) = record { steps = map link_first h.links; before = run.before; base = h.first_run.inner_base } in
+      let inner : Run T (K × V) (K × O) = record { steps = map link_second h.links; before = run.before; base = h.second_base } in
+      let whole : lub first_seal seal ≡ seal = lub_level lattice first_seal seal level ∙ sym level in
+      record {
+        inner = inner;
+        times = times_part link_whole link_second (λ _. refl) h.links ∙ ap times_of (sym h.steps);
+        made = λ t. ap (λ ss. made_to leq ss t) h.steps ∙ made_second leq h.links t;
+        before = refl;
+        base = no_base h.first_base h.second_base run.base 0 h.base h.first_run.base;
+        fed = λ t over below. rw (h.steps, fed_first leq h.links t, ← made_first leq h.links t) ((answers first_run h.first_run.inner).closed t (above_first lattice first_seal seal t over) (Every-append_front (λ d. leq d t ≡ false) first_due due below));
+        batches = batched inner h.second_run;
+        charged_is = charges inner h.second_run ∙ ap (λ s. h.second_base + charged leq lub tcmp kcmp vcmp s (take run.before (map link_second h.links)) [] (drop run.before (map link_second h.links))) (sym whole);
+      }
+
+-- ---- a loop behind a part that charges nothing
+
+module _ {F X : Type 0} (body : List (LoopInput F X × ℕ) → List (X × ℕ)) (respects : (xs ys : List (LoopInput F X × ℕ)) → Alike xs ys → Alike (body xs) (body ys)) where
+  pub after_respects : (xs ys : List (LoopInput F X × ℕ)) (q : ℕ) → Alike xs ys → Alike (after_rounds body xs q) (after_rounds body ys q)
+  after_respects xs ys zero h = Alike-moving xs ys h
+  after_respects xs ys (suc q) h = respects (fixed xs ++ as_moving (after_rounds body xs q)) (fixed ys ++ as_moving (after_rounds body ys q)) (Alike-append (Alike-fixed xs ys h) (Alike-mapped Moving (after_rounds body xs q) (after_rounds body ys q) (after_respects xs ys q h)))
+
+module _ {T F X : Type 0} where
+  lap_times : (t : T) (k : ℕ) (es : List (Exchange F X)) → times_of (steps_from t k es) ≡ rounds_from t k (length es)
+  lap_times t k [] = refl
+  lap_times t k (e ∷ es) = ap (λ ts. pair_of t k ∷ ts) (lap_times t (suc k) es)
+
+  laps_times : (rounds : ℕ) (laps : List (Lap T F X)) → Every (IsLap rounds) laps → times_of (body_steps laps) ≡ all_rounds rounds (times_of (map lap_step laps))
+  laps_times rounds [] h = refl
+  laps_times rounds (l ∷ ls) h =
+      times_of-append (steps_from l.time 0 l.taken) (body_steps ls)
+      ∙ ap (λ ts. ts ++ times_of (body_steps ls)) (lap_times l.time 0 l.taken ∙ ap (rounds_from l.time 0) h.0.count)
+      ∙ ap (λ ts. rounds_from l.time 0 rounds ++ ts) (laps_times rounds ls h.1)
+
+module _ {T In F K V O : Type 0} (leq : T → T → Bool) (lub : T → T → T) (lattice : IsLattice leq lub) (pcmp : Pair T Round → Pair T Round → Ordering) (kcmp : K → K → Ordering) (vcmp : V → V → Ordering) (prep : List (In × ℕ) → List (LoopInput F (K × O) × ℕ)) (items : List (LoopInput F (K × O) × ℕ) → List ((K × V) × ℕ)) (body : List (LoopInput F (K × O) × ℕ) → List ((K × O) × ℕ)) (items_respects : (xs ys : List (LoopInput F (K × O) × ℕ)) → Alike xs ys → Alike (items xs) (items ys)) (body_respects : (xs ys : List (LoopInput F (K × O) × ℕ)) → Alike xs ys → Alike (body xs) (body ys)) (rounds : ℕ) (first_seal : T) (body_seal : Pair T Round) (first_due : List T) (body_due : List (Pair T Round)) (charge : ℕ) (First : Run T In (LoopInput F (K × O)) → Type 0) (Body : Run (Pair T Round) (LoopInput F (K × O)) (K × O) → Type 0) where
+  -- what the loop's body is fed in a round, from what the whole was fed
+  round_fed : (laps : List (Lap T F (K × O))) (arrived fed : List (LoopInput F (K × O) × ℕ)) (t : T) (r : ℕ) → fed_to leq (map lap_step laps) t ≡ arrived → Alike arrived fed → HoldsAtRound leq body laps t r → Alike (fed_to (pair_leq leq) (body_steps laps) (pair_of t r)) (fixed fed ++ as_moving (after_rounds body fed r))
+  round_fed laps arrived fed t r is a holds =
+      Alike-trans holds.fed (subst (λ v. Alike (fixed v ++ as_moving (after_rounds body v r)) (fixed fed ++ as_moving (after_rounds body fed r))) (sym is)
+      (Alike-append (Alike-fixed arrived fed a) (Alike-mapped Moving (after_rounds body arrived r) (after_rounds body fed r) (after_respects body body_respects arrived fed r a))))
+
+  pub loop-inside : ((r : Run T In (LoopInput F (K × O))) → First r → Answers leq lub prep first_seal first_due r)
+      → ((r : Run (Pair T Round) (LoopInput F (K × O)) (K × O)) → Body r → BodyInside (pair_leq leq) (pair_lub lub) pcmp kcmp vcmp items body_seal body_due charge r)
+      → (run : Run T In (Round × (K × O))) (h : StandsByLinks (StandsQuietly First) (λ r. StandsByLaps Body rounds r × (body_seal.inner.0 ≡ 0)) run) → body_seal.outer ≡ first_seal
+      → ((t : T) (r : ℕ) → r < rounds → IsTrue (leq body_seal.outer t) → NoneBelow leq t (map (λ d. d.outer) body_due) → HoldsAtRound leq body h.second_run.0.laps t r)
+      → LoopInside leq lub pcmp kcmp vcmp prep items body rounds (lub first_seal body_seal.outer) (first_due ++ map (λ d. d.outer) body_due) charge run
+  loop-inside answers inside run h level holds =
+      let first_run : Run T In (LoopInput F (K × O)) = record { steps = map link_first h.links; before = run.before; base = h.first_run.inner_base } in
+      let loop : StandsByLaps Body rounds (record { steps = map link_second h.links; before = run.before; base = h.second_base }) = h.second_run.0 in
+      let zero_round : body_seal.inner.0 ≡ 0 = h.second_run.1 in
+      let b : BodyInside (pair_leq leq) (pair_lub lub) pcmp kcmp vcmp items body_seal body_due charge (record { steps = body_steps loop.laps; before = run.before * rounds; base = h.second_base }) = inside (record { steps = body_steps loop.laps; before = run.before * rounds; base = h.second_base }) loop.stands in
+      let whole : lub first_seal body_seal.outer ≡ body_seal.outer = lub_level lattice first_seal body_seal.outer level ∙ sym level in
+      let at_zero : body_seal ≡ pair_of body_seal.outer 0 = ap (λ n. pair_of body_seal.outer n) zero_round in
+      record {
+        inner = b.inner;
+        times = b.times ∙ laps_times rounds loop.laps loop.each ∙ ap (λ ss. all_rounds rounds (times_of ss)) (sym loop.steps) ∙ ap (all_rounds rounds) (times_part link_whole link_second (λ _. refl) h.links ∙ ap times_of (sym h.steps));
+        before = b.before;
+        base = b.base ∙ no_base h.first_base h.second_base run.base 0 h.base h.first_run.base;
+        fed = λ t r low over below.
+            let own : IsTrue (leq body_seal.outer t) = subst (λ s. IsTrue (leq s t)) whole over in
+            let outer : NoneBelow leq t (map (λ d. d.outer) body_due) = Every-append_back (λ d. leq d t ≡ false) first_due (map (λ d. d.outer) body_due) below in
+            let came : Alike (made_to leq (map link_first h.links) t) (prep (fed_to leq (map link_first h.links) t)) = (answers first_run h.first_run.inner).closed t (above_first lattice first_seal body_seal.outer t over) (Every-append_front (λ d. leq d t ≡ false) first_due (map (λ d. d.outer) body_due) below) in
+            let arrived : fed_to leq (map lap_step loop.laps) t ≡ made_to leq (map link_first h.links) t = ap (λ ss. fed_to leq ss t) (sym loop.steps) ∙ sym (made_first leq h.links t) in
+            let fed : prep (fed_to leq (map link_first h.links) t) ≡ prep (fed_to leq run.steps t) = ap prep (sym (ap (λ ss. fed_to leq ss t) h.steps ∙ fed_first leq h.links t)) in
+            let round : Alike (fed_to (pair_leq leq) (body_steps loop.laps) (pair_of t r)) (fixed (prep (fed_to leq run.steps t)) ++ as_moving (after_rounds body (prep (fed_to leq run.steps t)) r)) = round_fed loop.laps (made_to leq (map link_first h.links) t) (prep (fed_to leq run.steps t)) t r arrived (Alike-trans came (Alike-is fed)) (holds t r low own outer) in
+            Alike-trans (b.fed (pair_of t r) (seal_below leq body_seal t r zero_round own) (none_outer leq t r body_due outer)) (items_respects (fed_to (pair_leq leq) (body_steps loop.laps) (pair_of t r)) (fixed (prep (fed_to leq run.steps t)) ++ as_moving (after_rounds body (prep (fed_to leq run.steps t)) r)) round);
+        batches = b.batches;
+        charged_is = b.charged_is ∙ ap (λ s. b.inner.base + charged (pair_leq leq) (pair_lub lub) pcmp kcmp vcmp s (take b.inner.before b.inner.steps) [] (drop b.inner.before b.inner.steps)) (at_zero ∙ ap (λ o. pair_of o 0) (sym whole));
+      }

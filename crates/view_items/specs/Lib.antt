@@ -1,0 +1,9 @@
+pub mod Collections
+pub mod Prepared
+pub mod Rounds
+pub mod Laws
+pub mod ItemLaws
+pub mod PreparedLaws
+pub mod ViewItems
+pub mod RoundLaws
+pub mod ThroughLaws

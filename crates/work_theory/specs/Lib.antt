@@ -1,0 +1,9 @@
+pub mod Once
+pub mod Laps
+pub mod Laws
+pub mod LapLaws
+pub mod MarkLaws
+pub mod CountedLaws
+pub mod KeyLaws
+pub mod LapWork
+pub mod ViewLaws
