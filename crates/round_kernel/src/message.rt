@@ -14,6 +14,7 @@ ghost use Rattle.round_kernel.specs.Sides.{in_view, brings, all_brought, AreSent
 ghost use Rattle.round_kernel.specs.Telling.{InMovers, AreStill, moves};
 ghost use Rattle.round_kernel.specs.Tallies.{tally_of};
 
+use crate::numbers::{step_column, stepped};
 use crate::tally::{Tally, lesser_of};
 use crate::told::Movers;
 use graph_model::{Graph, Val};
@@ -55,7 +56,8 @@ pub(crate) fn message(program: &Program, graph: &Graph, side: Side<'_>, arc: Arc
     }
 }
 
-// What is sent along an arc, whether or not its edge is in the view.
+// What is sent along an arc, whether or not its edge is in the view. Where it is the value and a property of the edge
+// added, it is added here.
 fn send_along(program: &Program, graph: &Graph, side: Side<'_>, arc: Arc) -> Val
     requires checked { IsChecked program.now graph.now }
     requires arc { IsArc graph.now arc }
@@ -66,6 +68,9 @@ fn send_along(program: &Program, graph: &Graph, side: Side<'_>, arc: Arc) -> Val
     let tail = arc.tail.0 as usize;
     if side.alike {
         return kept(side.sent, tail);
+    }
+    if let Some(column) = step_column(program) {
+        return stepped(graph, side.values[tail], arc.edge, column);
     }
     send(
         program,

@@ -1,6 +1,7 @@
 //! Values as numbers of eight bytes, so that those of many nodes stay near.
 
 ghost use Rattle.std.specs.Prelude.{◌≡◌, ◌<◌, ◌^◌, true, ◌∷◌, [], length, All, IfOk, IfSome, IsTrue};
+ghost use Rattle.graph_model.specs.declared.value.Val.TheVariants.{Num};
 ghost use Rattle.vertex_lang.specs.declared.program.Expr.TheVariants.{EdgeProp};
 ghost use Rattle.vertex_lang.specs.Expressions.{edge_value};
 ghost use Rattle.vertex_lang.specs.Values.{added};
@@ -126,10 +127,33 @@ fn only_property(rest: &[(bool, Expr)]) -> Option<u32>
     }
 }
 
-/// A property of an edge as one number.
+/// A value and a property of an edge added.
+pub(crate) fn stepped(graph: &Graph, value: Val, edge: EdgeNo, column: u32) -> Val
+    requires { edge.0 < length graph.now.ends }
+    ensures { result ≡ added true value (edge_value graph.now edge.0 column) }
+{
+    match value {
+        Val::Nil => Val::Nil,
+        Val::Num(number) => stepped_by(number, step_of(graph, edge, column)),
+    }
+}
+
+// A number, whichever it is, and the value of another one added.
+fn stepped_by(number: i64, step: i64) -> Val
+    ensures { result ≡ added true (Num number) (value_in step) }
+{
+    if step == NONE {
+        Val::Nil
+    } else {
+        Val::Num(clamp_number(i128::from(number) + i128::from(step)))
+    }
+}
+
+/// A property of an edge as one number. No cell is the number that stands for none.
 pub(crate) fn step_of(graph: &Graph, edge: EdgeNo, column: u32) -> i64
     requires { edge.0 < length graph.now.ends }
-    ensures { result ≡ code_of (edge_value graph.now edge.0 column) }
+    ensures code { result ≡ code_of (edge_value graph.now edge.0 column) }
+    ensures value { value_in result ≡ edge_value graph.now edge.0 column }
 {
     let place = column as usize;
     if place >= graph.edge_columns().len() {
