@@ -102,9 +102,9 @@ module _ (answer : Answer) (f : Frame) (frame : IsFrame answer f f.limit) where
       → length lists.touched.items ≡ count_in f → ((v : ℕ) → v < count_in f → get_or lists.touched.items v false ≡ f.first)
       → length lists.marked.items ≡ count_in f
       → length lists.watched.items ≡ count_in f → All (λ a. get_or lists.watched.items a.tail.0 false ≡ true) f.turned.now
-      → MayKeep lists.alike f.program.now f.graph.now → AreSent lists.alike f.program.now f.graph.now lists.new_degrees.items lists.starts.items lists.new_sent.items → AreSent lists.alike f.program.now f.graph.now lists.old_degrees.items lists.starts.items lists.old_sent.items → lists.before_sent.items ≡ lists.new_sent.items
+      → MayKeep lists.alike f.program.now f.graph.now → AreSent lists.alike f.program.now f.graph.now lists.new_degrees.items lists.starts.items lists.new_sent.items
       → IsQueue (count_in f) lists.queue → StandAt answer f 0 (was_touched_at answer f 0) lists
-  at-start lists es eon eob enn enb sod aod bod snd and bnd st at sm sw aw mk kn ko eb q =
+  at-start lists es eon eob enn enb sod aod bod snd and bnd st at sm sw aw mk kn q =
       let old = at-first f.old.now lists.old_degrees.items lists.old_now.items frame.old_size sod aod bod (eon ∙ es) in
       record {
         starts = es;
@@ -121,7 +121,5 @@ module _ (answer : Answer) (f : Frame) (frame : IsFrame answer f f.limit) where
         watched_are = λ one i d low t. All-contains (λ (a : Arc). get_or lists.watched.items a.tail.0 false ≡ true) f.turned.now (get_or f.rows.now.by_head i d) aw (frame.turned one i d low t);
         keeps = mk;
         new_sent = subst (λ (vs : List Val). AreSent lists.alike f.program.now f.graph.now lists.new_degrees.items vs lists.new_sent.items) (sym enn) kn;
-        before_sent = subst (λ (vs : List Val). AreSent lists.alike f.program.now f.graph.now lists.new_degrees.items vs lists.before_sent.items) (sym enb) (subst (λ (vs : List Val). AreSent lists.alike f.program.now f.graph.now lists.new_degrees.items lists.starts.items vs) (sym eb) kn);
-        old_sent = subst (λ (vs : List Val). AreSent lists.alike f.program.now f.graph.now lists.old_degrees.items vs lists.old_sent.items) (sym eon) ko;
         queue = q;
       }

@@ -55,7 +55,7 @@ mixed true true b h = refl
 mixed true false b h = refl
 mixed false m b h = sym (h refl)
 
-pub not-told : (b : Bool) → not b ≡ true → b ≡ false
+not-told : (b : Bool) → not b ≡ true → b ≡ false
 not-told true e = absurd (clash false refl e)
 not-told false e = refl
 
@@ -134,19 +134,17 @@ module _ (answer : Answer) (f : Frame) (r : ℕ) where
     watched_are = u.watched_are;
     keeps = u.keeps;
     new_sent = u.new_sent;
-    before_sent = u.before_sent;
-    old_sent = u.old_sent;
     queue = u.queue;
   }
 
   -- the values go one round on
-  pub at-next : (lists : Lists) (ob nb on nn os ns bs : Vec Val Global) → StandAt answer f r (touched_at answer f r) lists
+  pub at-next : (lists : Lists) (ob nb on nn ns : Vec Val Global) → StandAt answer f r (touched_at answer f r) lists
       → nn.items ≡ lone_at answer f (r + 1) → nb.items ≡ lone_at answer f r
       → (f.first ≡ false → on.items ≡ lone answer f.program.now f.graph.now (arcs_in f.rows.now.by_head f.old.now) (r + 1)) → (f.first ≡ false → ob.items ≡ lone answer f.program.now f.graph.now (arcs_in f.rows.now.by_head f.old.now) r)
       → length nn.items ≡ count_in f → length nb.items ≡ count_in f → length on.items ≡ count_in f → length ob.items ≡ count_in f
-      → AreSent lists.alike f.program.now f.graph.now lists.new_degrees.items nn.items ns.items → AreSent lists.alike f.program.now f.graph.now lists.new_degrees.items nb.items bs.items → AreSent lists.alike f.program.now f.graph.now lists.old_degrees.items on.items os.items
-      → StandAt answer f (r + 1) (was_touched_at answer f (r + 1)) (record lists { old_before = ob; new_before = nb; old_now = on; new_now = nn; old_sent = os; new_sent = ns; before_sent = bs })
-  at-next lists ob nb on nn os ns bs u enn enb eon eob snn snb son sob kns kbs kos = record {
+      → AreSent lists.alike f.program.now f.graph.now lists.new_degrees.items nn.items ns.items
+      → StandAt answer f (r + 1) (was_touched_at answer f (r + 1)) (record lists { old_before = ob; new_before = nb; old_now = on; new_now = nn; new_sent = ns })
+  at-next lists ob nb on nn ns u enn enb eon eob snn snb son sob kns = record {
     starts = u.starts;
     new_now = record { sized = sized-of f.new.now lists.new_degrees.items lists.new_now.items nn.items u.new_now.sized snn; degrees_are = u.new_now.degrees_are; values_are = enn };
     new_before = record { sized = sized-of f.new.now lists.new_degrees.items lists.new_before.items nb.items u.new_before.sized snb; degrees_are = u.new_before.degrees_are; values_are = enb ∙ ap (λ n. lone_at answer f n) back };
@@ -161,8 +159,6 @@ module _ (answer : Answer) (f : Frame) (r : ℕ) where
     watched_are = u.watched_are;
     keeps = u.keeps;
     new_sent = kns;
-    before_sent = kbs;
-    old_sent = kos;
     queue = u.queue;
   } where
     back : r ≡ (r + 1) - 1

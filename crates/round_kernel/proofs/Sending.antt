@@ -1,7 +1,6 @@
--- Messages that are kept: one of a node changes, and they catch up with those of the next round.
-use Rattle.std.proofs.Common.{◌≡◌, ◌∙◌, ◌<◌, sym, ap, subst, refl, ℕ, Bool, true, false, List, length, get_or, set, arith, inl, inr}
-use Rattle.std.specs.Prelude.{if◌then◌else◌}
-use Rattle.std.proofs.lemmas.Bool.{cases_eq, cases_Bool}
+-- Messages that are kept, and one of a node that changes.
+use Rattle.std.proofs.Common.{◌≡◌, ◌∙◌, ◌<◌, sym, ap, subst, ℕ, Bool, true, List, length, get_or, set, arith, inl, inr}
+use Rattle.std.proofs.lemmas.Bool.{cases_eq}
 use Rattle.std.proofs.lemmas.Grind.{get_or-set_at}
 use Rattle.std.proofs.lemmas.List.{get_or-set_other, length-set}
 use Rattle.graph_model.specs.declared.value.Val.{Val}
@@ -9,12 +8,9 @@ use Rattle.graph_model.specs.declared.value.Val.TheVariants.{Nil}
 use Rattle.graph_model.specs.GraphData.{GraphData}
 use Rattle.vertex_lang.specs.declared.program.Program.{Program}
 use Rattle.vertex_lang.specs.Expressions.{sent_by, send_words, edge_value}
-use Rattle.vertex_lang.specs.Ignoring.{IgnoresEdge, IgnoresOutdeg}
+use Rattle.vertex_lang.specs.Ignoring.{IgnoresEdge}
 use Rattle.vertex_lang.specs.Rounds.{value_at}
-use Rattle.round_kernel.specs.declared.history.Change.{Change}
-use Rattle.round_kernel.specs.Histories.{is_changed, HasChanges, AreChanged}
 use Rattle.round_kernel.specs.Sides.{AreSent, MayKeep}
-use Rattle.round_kernel.proofs.Filling.{unchanged-at}
 
 -- as slices of the lists
 pub sent-at : (alike : Bool) (p : Program) (graph : GraphData) (degrees ds : List ℕ) (values vs sent ss : List Val) → ds ≡ degrees → vs ≡ values → ss ≡ sent → AreSent alike p graph degrees values sent → AreSent alike p graph ds vs ss
@@ -24,13 +20,6 @@ sent-at alike p graph degrees ds values vs sent ss ed ev es h =
 -- any edge tells
 any-edge : (p : Program) (graph : GraphData) (u d e f : ℕ) (v : Val) → IgnoresEdge p.send → sent_by p graph u v d e ≡ sent_by p graph u v d f
 any-edge p graph u d e f v h = h (send_words graph u v d e) (edge_value graph e) (edge_value graph f)
-
--- messages that don't depend on how many arcs leave a node are the same in another view
-pub sent-elsewhere : (alike : Bool) (p : Program) (graph : GraphData) (degrees others : List ℕ) (values sent : List Val) → IgnoresOutdeg p.send → AreSent alike p graph degrees values sent → AreSent alike p graph others values sent
-sent-elsewhere alike p graph degrees others values sent ignores h = λ e. (
-  (h e).0,
-  λ u f low. (h e).1 u f low ∙ ignores (send_words graph u (value_at values u) 0 f) (get_or degrees u 0) (get_or others u 0),
-)
 
 module _ (alike : Bool) (p : Program) (graph : GraphData) (degrees : List ℕ) where
   -- no message yet, and one more
@@ -48,23 +37,4 @@ module _ (alike : Bool) (p : Program) (graph : GraphData) (degrees : List ℕ) w
           ∙ ap (λ (x : Val). sent_by p graph u x (get_or degrees u 0) f) (sym (get_or-set_at values n u w Nil same (omega (arith, size, low))))
       | inr other ↦ get_or-set_other sent n u m Nil other ∙ (h e).1 u f within ∙ ap (λ (x : Val). sent_by p graph u x (get_or degrees u 0) f) (sym (get_or-set_other values n u w Nil other))
     ],
-  )
-
-  picked : (b : Bool) (x y : Val) → b ≡ true → (if b then x else y) ≡ x
-  picked true x y e = refl
-  picked false x y e = absurd cc
-
-  passed : (b : Bool) (x y : Val) → b ≡ false → (if b then x else y) ≡ y
-  passed true x y e = absurd cc
-  passed false x y e = refl
-
-  -- what changed is brought up to the next round
-  pub sent-caught : (before now was is next : List Val) (cs : List Change) → HasChanges (length graph.ids) before now cs → AreSent alike p graph degrees before was → AreSent alike p graph degrees now is
-      → AreChanged was is next cs → AreSent alike p graph degrees now next
-  sent-caught before now was is next cs has had have done = λ e. (
-    done.size ∙ (had e).0,
-    λ u f low. done.at u ∙ (elim (cases_Bool (is_changed u cs)) [
-      | inl t ↦ picked (is_changed u cs) (value_at is u) (value_at was u) t ∙ (have e).1 u f low
-      | inr g ↦ passed (is_changed u cs) (value_at is u) (value_at was u) g ∙ (had e).1 u f low ∙ ap (λ (x : Val). sent_by p graph u x (get_or degrees u 0) f) (sym (unchanged-at (length graph.ids) before now cs u low has g))
-    ]),
   )

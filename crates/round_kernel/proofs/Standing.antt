@@ -40,8 +40,6 @@ module _ (answer : Answer) (f : Frame) (r : ℕ) where
     watched_are = u.watched_are;
     keeps = u.keeps;
     new_sent = u.new_sent;
-    before_sent = u.before_sent;
-    old_sent = u.old_sent;
     queue = h;
   }
 
@@ -62,8 +60,6 @@ module _ (answer : Answer) (f : Frame) (r : ℕ) where
     watched_are = u.watched_are;
     keeps = u.keeps;
     new_sent = u.new_sent;
-    before_sent = u.before_sent;
-    old_sent = u.old_sent;
     queue = u.queue;
   }
 
@@ -88,8 +84,6 @@ module _ (answer : Answer) (f : Frame) (r : ℕ) where
     watched_are = u.watched_are;
     keeps = u.keeps;
     new_sent = u.new_sent;
-    before_sent = u.before_sent;
-    old_sent = u.old_sent;
     queue = u.queue;
   })
 
@@ -102,8 +96,6 @@ module _ (answer : Answer) (f : Frame) (r : ℕ) where
     new_before = u.new_before;
     old_now = u.old_now;
     new_sent = u.new_sent;
-    before_sent = u.before_sent;
-    old_sent = u.old_sent;
     touched_size = u.touched_size;
     touched = u.touched_are v low ∙ was;
     marked_size = u.marked_size;

@@ -99,8 +99,6 @@ pub record IsPlace (answer : Answer) (f : Frame) (r v : ℕ) (lists : Lists) : T
   pub new_before : IsRound answer f.program.now f.graph.now f.rows.now.by_head f.new.now lists.new_degrees.items lists.new_before.items (r - 1)
   pub old_now : f.first ≡ false → IsRound answer f.program.now f.graph.now f.rows.now.by_head f.old.now lists.old_degrees.items lists.old_now.items r
   pub new_sent : AreSent lists.alike f.program.now f.graph.now lists.new_degrees.items lists.new_now.items lists.new_sent.items
-  pub before_sent : AreSent lists.alike f.program.now f.graph.now lists.new_degrees.items lists.new_before.items lists.before_sent.items
-  pub old_sent : AreSent lists.alike f.program.now f.graph.now lists.old_degrees.items lists.old_now.items lists.old_sent.items
   pub touched_size : length lists.touched.items ≡ count_in f
   pub touched : get_or lists.touched.items v false ≡ was_touched_at answer f r v
   pub marked_size : length lists.marked.items ≡ count_in f
@@ -117,10 +115,6 @@ AreKept answer f r touched kept = (v : ℕ) → v < count_in f → touched v ≡
 -- all but the touched nodes and the lists that are filled anew stay
 abbrev pub IsKept : Lists → Lists → Type 0
 IsKept old new = new ≡ record old { touched = new.touched; scratch = new.scratch }
-
--- all but the messages that are kept of the round before stay
-abbrev pub IsSentUp : Lists → Lists → Type 0
-IsSentUp old new = new ≡ record old { before_sent = new.before_sent }
 
 -- all but the values of the round before stay
 abbrev pub IsCaughtUp : Lists → Lists → Type 0

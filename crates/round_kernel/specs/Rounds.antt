@@ -31,8 +31,6 @@ pub record AreAt (answer : Answer) (p : Program) (graph : GraphData) (all : List
   pub watched_are : first ≡ false → All (λ a. IsTurned old new a → get_or lists.watched.items a.tail.0 false ≡ true) all
   pub keeps : MayKeep lists.alike p graph
   pub new_sent : AreSent lists.alike p graph lists.new_degrees.items lists.new_now.items lists.new_sent.items
-  pub before_sent : AreSent lists.alike p graph lists.new_degrees.items lists.new_before.items lists.before_sent.items
-  pub old_sent : AreSent lists.alike p graph lists.old_degrees.items lists.old_now.items lists.old_sent.items
   pub queue : IsQueue (length graph.ids) lists.queue
 
 -- no node waits, and none is shown to be marked

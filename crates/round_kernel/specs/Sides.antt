@@ -52,18 +52,9 @@ pub record IsSized (graph : GraphData) (edges : List Bool) (degrees : List ℕ) 
 abbrev pub AreSent : Bool → Program → GraphData → List ℕ → List Val → List Val → Type 0
 AreSent alike p graph degrees values sent = alike ≡ true → (length sent ≡ length graph.ids) × ((u e : ℕ) → u < length graph.ids → value_at sent u ≡ sent_by p graph u (value_at values u) (get_or degrees u 0) e)
 
--- where it is told, these are values and the messages that are kept of them in a view with so many arcs from each node
-abbrev pub IsTwin : Bool → Bool → Program → GraphData → List ℕ → List Val → List Val → Type 0
-IsTwin told alike p graph degrees values sent =
-    told ≡ true → (length values ≡ length graph.ids) × AreSent alike p graph degrees values sent
-
 -- messages may be kept: they are the same along all arcs that leave a node, and there is an edge
 abbrev pub MayKeep : Bool → Program → GraphData → Type 0
 MayKeep alike p graph = alike ≡ true → IgnoresEdge p.send × (0 < length graph.ends)
-
--- where two rounds are told to be of one view, they are
-abbrev pub AreOneView : Bool → List Bool → List Bool → List ℕ → List ℕ → Type 0
-AreOneView same edges others degrees counts = same ≡ true → (edges ≡ others) × (degrees ≡ counts)
 
 -- as many arcs of the view leave each node; where the message doesn't depend on it they aren't counted
 abbrev pub AreDegrees : Program → GraphData → List Arc → List ℕ → Type 0

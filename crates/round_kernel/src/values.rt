@@ -1,12 +1,12 @@
 //! The values of both views, round by round.
 
-ghost use Rattle.std.specs.Prelude.{◌≡◌, ◌<◌, ◌^◌, true, false, ℕ, List, length, map, get_or, slice_set, All, IfOk, IsTrue};
+ghost use Rattle.std.specs.Prelude.{◌≡◌, ◌<◌, ◌^◌, true, ℕ, List, length, map, get_or, slice_set, All, IfOk};
 ghost use Rattle.graph_model.specs.declared.value.Val.{Val};
 ghost use Rattle.vertex_lang.specs.Leaves.{IsChecked};
-ghost use Rattle.vertex_lang.specs.Expressions.{start_of, sent_by};
-ghost use Rattle.vertex_lang.specs.Arcs.{IsArc, outdeg};
-ghost use Rattle.vertex_lang.specs.Rounds.{nodes_of, value_at};
-ghost use Rattle.round_kernel.specs.Sides.{arcs_in, AreSent, IsTwin, MayKeep};
+ghost use Rattle.vertex_lang.specs.Expressions.{start_of};
+ghost use Rattle.vertex_lang.specs.Arcs.{outdeg};
+ghost use Rattle.vertex_lang.specs.Rounds.{nodes_of};
+ghost use Rattle.round_kernel.specs.Sides.{arcs_in, AreSent, MayKeep};
 ghost use Rattle.round_kernel.specs.Histories.{AreStarts, HasChanges, AreChanged, changes_from, all_from};
 
 use crate::history::Change;
@@ -15,26 +15,6 @@ use graph_model::{EdgeNo, Graph, NodeNo, Val};
 use std::alloc::Global;
 use surge_outside::{List, NoMemory};
 use vertex_lang::{Arc, Program, ignores_edge, send, start};
-
-/// The values of another view, and the messages that are kept of them. Where it's told, a node that gets the value it
-/// has there sends the message that is kept.
-#[derive(Clone, Copy)]
-pub(crate) struct Twin<'a> {
-    pub(crate) told: bool,
-    pub(crate) values: &'a [Val],
-    pub(crate) sent: &'a [Val],
-}
-
-impl Twin<'_> {
-    // Whether a node has this value in the other view, and its message may be used.
-    fn tells(&self, place: usize, value: Val) -> bool
-        requires { self.now.told ≡ true → place < length self.now.values.now }
-        ensures told { IsTrue result → self.now.told ≡ true }
-        ensures value { IsTrue result → value_at self.now.values.now place ≡ value }
-    {
-        self.told && !is_other(self.values[place], value)
-    }
-}
 
 /// The value with which each node starts, by its number.
 pub(crate) fn start_values(
@@ -130,8 +110,17 @@ pub(crate) fn catch_up(before: &mut [Val], now: &[Val], changes: &[Change])
     }
 }
 
-/// Gives each node that changes its new value, and its new message where messages are kept: the twin's where that has
-/// the same value.
+/// Gives each node that changes its new value.
+pub(crate) fn assign(now: &mut [Val], changes: &[Change])
+    requires { All (λ c. c.node.0 < length now.old) changes.now }
+    ensures { (after : List Val) → length after ≡ length now.old → HasChanges (length now.old) now.old after changes.now → now.new ≡ after }
+{
+    for change in changes {
+        now[change.node.0 as usize] = change.value;
+    }
+}
+
+/// Gives each node that changes its new value, and its new message where messages are kept.
 pub(crate) fn apply(
     program: &Program,
     graph: &Graph,
@@ -140,7 +129,6 @@ pub(crate) fn apply(
     now: &mut [Val],
     sent: &mut [Val],
     changes: &[Change],
-    twin: Twin<'_>,
 )
     requires within { All (λ c. c.node.0 < length now.old) changes.now }
     requires checked { IsChecked program.now graph.now }
@@ -149,12 +137,11 @@ pub(crate) fn apply(
     requires small { (u : ℕ) → u < length graph.now.ids → get_or degrees.now u 0 < 2 ^ 32 }
     requires keeps { MayKeep alike program.now graph.now }
     requires sent { AreSent alike program.now graph.now degrees.now now.old sent.old }
-    requires twin { IsTwin twin.told alike program.now graph.now degrees.now twin.values.now twin.sent.now }
     ensures values { (after : List Val) → length after ≡ length now.old → HasChanges (length now.old) now.old after changes.now → now.new ≡ after }
     ensures sent { AreSent alike program.now graph.now degrees.now now.new sent.new }
 {
     for change in changes {
-        change_one(program, graph, alike, degrees, now, sent, *change, twin);
+        change_one(program, graph, alike, degrees, now, sent, *change);
     }
 }
 
@@ -167,7 +154,6 @@ fn change_one(
     now: &mut [Val],
     sent: &mut [Val],
     change: Change,
-    twin: Twin<'_>,
 )
     requires node { change.node.0 < length now.old }
     requires checked { IsChecked program.now graph.now }
@@ -176,7 +162,6 @@ fn change_one(
     requires small { (u : ℕ) → u < length graph.now.ids → get_or degrees.now u 0 < 2 ^ 32 }
     requires keeps { MayKeep alike program.now graph.now }
     requires sent { AreSent alike program.now graph.now degrees.now now.old sent.old }
-    requires twin { IsTwin twin.told alike program.now graph.now degrees.now twin.values.now twin.sent.now }
     ensures value { now.new ≡ slice_set now.old change.node.0 change.value }
     ensures sent { AreSent alike program.now graph.now degrees.now now.new sent.new }
 {
@@ -185,38 +170,15 @@ fn change_one(
     if !alike {
         return;
     }
-    let message = message_of(program, graph, degrees, change, twin);
-    put(sent, place, message);
-}
-
-// The message of a node with its new value: the twin's where that has this value too, and else a new one.
-fn message_of(
-    program: &Program,
-    graph: &Graph,
-    degrees: &[u64],
-    change: Change,
-    twin: Twin<'_>,
-) -> Val
-    requires node { change.node.0 < length graph.now.ids }
-    requires checked { IsChecked program.now graph.now }
-    requires degrees_size { length degrees.now ≡ length graph.now.ids }
-    requires small { get_or degrees.now change.node.0 0 < 2 ^ 32 }
-    requires edge { 0 < length graph.now.ends }
-    requires twin { IsTwin twin.told true program.now graph.now degrees.now twin.values.now twin.sent.now }
-    ensures { result ≡ sent_by program.now graph.now change.node.0 change.value (get_or degrees.now change.node.0 0) 0 }
-{
-    let place = change.node.0 as usize;
-    if twin.tells(place, change.value) {
-        return twin.sent[place];
-    }
-    send(
+    let message = send(
         program,
         graph,
         change.node,
         change.value,
         degrees[place],
         EdgeNo(0),
-    )
+    );
+    put(sent, place, message);
 }
 
 // Keeps a message for a node.
@@ -269,33 +231,6 @@ pub(crate) fn send_all(
         );
         sent.push(message)?;
     }
-    Ok(sent)
-}
-
-/// The same; they are copied from those of another view where the message doesn't depend on how many arcs leave a node.
-pub(crate) fn send_or_copy(
-    alloc: Global,
-    program: &Program,
-    graph: &Graph,
-    alike: bool,
-    values: &[Val],
-    degrees: &[u64],
-    by_degree: bool,
-    others: &[Val],
-) -> Result<Vec<Val>, NoMemory>
-    requires checked { IsChecked program.now graph.now }
-    requires size { length values.now ≡ length graph.now.ids }
-    requires degrees_size { length degrees.now ≡ length graph.now.ids }
-    requires small { (u : ℕ) → u < length graph.now.ids → get_or degrees.now u 0 < 2 ^ 32 }
-    requires keeps { MayKeep alike program.now graph.now }
-    requires others { by_degree ≡ false → AreSent alike program.now graph.now degrees.now values.now others.now }
-    ensures { IfOk result (λ sent. AreSent alike program.now graph.now degrees.now values.now sent.items) }
-{
-    if by_degree {
-        let sent = send_all(alloc, program, graph, alike, values, degrees)?;
-        return Ok(sent);
-    }
-    let sent = Vec::from_slice(alloc, others)?;
     Ok(sent)
 }
 

@@ -42,7 +42,6 @@ pub(crate) struct Sides<'a> {
     pub(crate) old: Side<'a>,
     pub(crate) new: Side<'a>,
     pub(crate) before: &'a [Val],
-    pub(crate) before_sent: &'a [Val],
 }
 
 /// What a round of the new view gives: the nodes whose input changed in it, and what changes to the next round.
@@ -78,7 +77,6 @@ pub(crate) fn visit<U: Updater>(
     requires kept { 0 < spot.round → touched.old ≡ true → kept.old ≡ kept_at U.answer program.now graph.now (arcs_in rows.now.by_head sides.new.edges.now) (spot.round - 1) spot.node.0 }
     requires touched { touched.old ≡ was_touched U.answer program.now graph.now rows.now.by_head spot.first sides.old.edges.now sides.new.edges.now spot.round spot.node.0 }
     requires new_sent { AreSent sides.new.alike program.now graph.now sides.new.degrees.now sides.new.values.now sides.new.sent.now }
-    requires before_sent { AreSent sides.new.alike program.now graph.now sides.new.degrees.now sides.before.now sides.before_sent.now }
     requires old_sent { AreSent sides.old.alike program.now graph.now sides.old.degrees.now sides.old.values.now sides.old.sent.now }
     requires aided { IsAided U.answer program.now graph.now rows.now.by_head spot.first sides.old.edges.now sides.new.edges.now spot.round aids.now }
     ensures touched { OnOk result (touched.new ≡ node_touched U.answer program.now graph.now (arcs_in rows.now.by_head sides.entry.new.edges.now) (old_view spot.first rows.now.by_head sides.entry.old.edges.now) spot.node.0 spot.round) }
@@ -129,7 +127,6 @@ fn visit_touched<U: Updater>(
     requires kept { 0 < spot.round → was ≡ true → kept.old ≡ kept_at U.answer program.now graph.now (arcs_in rows.now.by_head sides.new.edges.now) (spot.round - 1) spot.node.0 }
     requires touched { node_touched U.answer program.now graph.now (arcs_in rows.now.by_head sides.new.edges.now) (old_view spot.first rows.now.by_head sides.old.edges.now) spot.node.0 spot.round ≡ true }
     requires new_sent { AreSent sides.new.alike program.now graph.now sides.new.degrees.now sides.new.values.now sides.new.sent.now }
-    requires before_sent { AreSent sides.new.alike program.now graph.now sides.new.degrees.now sides.before.now sides.before_sent.now }
     requires aided { IsAided U.answer program.now graph.now rows.now.by_head spot.first sides.old.edges.now sides.new.edges.now spot.round aids.now }
     ensures kept { OnOk result (kept.new ≡ kept_at U.answer program.now graph.now (arcs_in rows.now.by_head sides.entry.new.edges.now) spot.round spot.node.0) }
     ensures count { IfOk result (λ n. n ≡ (if node_counted U.answer program.now graph.now (arcs_in rows.now.by_head sides.entry.new.edges.now) (old_view spot.first rows.now.by_head sides.entry.old.edges.now) spot.node.0 spot.round then 1 else 0)) }
@@ -220,7 +217,6 @@ fn is_marked<U: Updater>(
     requires tally { tally ≡ tally_of program.now.gather (got_values U.answer program.now graph.now (arcs_in rows.now.by_head sides.new.edges.now) spot.node.0 spot.round) }
     requires touched { node_touched U.answer program.now graph.now (arcs_in rows.now.by_head sides.new.edges.now) (old_view spot.first rows.now.by_head sides.old.edges.now) spot.node.0 spot.round ≡ true }
     requires new_sent { AreSent sides.new.alike program.now graph.now sides.new.degrees.now sides.new.values.now sides.new.sent.now }
-    requires before_sent { AreSent sides.new.alike program.now graph.now sides.new.degrees.now sides.before.now sides.before_sent.now }
     requires aided { IsAided U.answer program.now graph.now rows.now.by_head spot.first sides.old.edges.now sides.new.edges.now spot.round aids.now }
     ensures { IfOk result (λ b. b ≡ node_marked U.answer program.now graph.now (Some (arcs_in rows.now.by_head sides.entry.new.edges.now)) spot.node.0 spot.round) }
 {
@@ -253,7 +249,6 @@ fn is_other_input<U: Updater>(
     requires new { IsRound U.answer program.now graph.now rows.now.by_head sides.new.edges.now sides.new.degrees.now sides.new.values.now spot.round }
     requires before { IsRound U.answer program.now graph.now rows.now.by_head sides.new.edges.now sides.new.degrees.now sides.before.now (spot.round - 1) }
     requires new_sent { AreSent sides.new.alike program.now graph.now sides.new.degrees.now sides.new.values.now sides.new.sent.now }
-    requires before_sent { AreSent sides.new.alike program.now graph.now sides.new.degrees.now sides.before.now sides.before_sent.now }
     requires aided { IsAided U.answer program.now graph.now rows.now.by_head spot.first sides.old.edges.now sides.new.edges.now spot.round aids.now }
     ensures { IfOk result (λ b. b ≡ node_marked U.answer program.now graph.now (Some (arcs_in rows.now.by_head sides.entry.new.edges.now)) spot.node.0 spot.round) }
 {
@@ -273,8 +268,8 @@ fn is_other_input<U: Updater>(
         edges: sides.new.edges,
         degrees: sides.new.degrees,
         values: sides.before,
-        alike: sides.new.alike,
-        sent: sides.before_sent,
+        alike: false,
+        sent: &[],
     };
     let marked = differ(
         program, graph, sides.new, before, false, movers, row, scratch,

@@ -8,19 +8,14 @@ use Rattle.round_kernel.proofs.values.change_one.Goals as goal
 pub returns-then-not-alike-clause-sent : goal.returns-then-not-alike-clause-sent
 returns-then-not-alike-clause-sent c = λ e. absurd (clash c.args.alike c.if-not-alike.true e)
 
-pub message_of-message-requires-clause-node : goal.message_of-message-requires-clause-node
-message_of-message-requires-clause-node c = omega (arith, c.requires.node, c.requires.size)
+pub send-message-requires-clause-tail : goal.send-message-requires-clause-tail
+send-message-requires-clause-tail c = omega (arith, c.requires.node, c.requires.size)
 
-pub message_of-message-requires-clause-small : goal.message_of-message-requires-clause-small
-message_of-message-requires-clause-small c = c.requires.small c.args.change.node.0 (omega (arith, c.requires.node, c.requires.size))
+pub send-message-requires-clause-outdeg : goal.send-message-requires-clause-outdeg
+send-message-requires-clause-outdeg c = c.requires.small c.args.change.node.0 (omega (arith, c.requires.node, c.requires.size))
 
-pub message_of-message-requires-clause-edge : goal.message_of-message-requires-clause-edge
-message_of-message-requires-clause-edge c = (c.requires.keeps c.if-not-alike.false).1
-
-pub message_of-message-requires-clause-twin : goal.message_of-message-requires-clause-twin
-message_of-message-requires-clause-twin c = λ t.
-    let is = c.requires.twin t in
-    (is.0, λ e. is.1 c.if-not-alike.false)
+pub send-message-requires-clause-edge : goal.send-message-requires-clause-edge
+send-message-requires-clause-edge c = (c.requires.keeps c.if-not-alike.false).1
 
 pub put-requires : goal.put-requires
 put-requires c = omega (arith, c.requires.node, c.requires.size, (c.requires.sent c.if-not-alike.false).0)
@@ -32,4 +27,4 @@ returns-clause-sent c =
     let n = c.args.change.node.0 in
     let now = set c.args.now.now n c.args.change.value in
     subst (λ (vs : List Val). AreSent c.args.alike p graph c.args.degrees.now now vs) (sym c.put.ensures)
-    (one-sent c.args.alike p graph c.args.degrees.now c.args.now.now c.args.sent.now n 0 c.args.change.value c.message_of-message.result c.requires.size (omega (arith, c.requires.node, c.requires.size)) c.requires.keeps c.message_of-message.ensures c.requires.sent)
+    (one-sent c.args.alike p graph c.args.degrees.now c.args.now.now c.args.sent.now n 0 c.args.change.value c.send-message.result c.requires.size (omega (arith, c.requires.node, c.requires.size)) c.requires.keeps c.send-message.ensures.message c.requires.sent)

@@ -12,32 +12,17 @@ use Rattle.round_kernel.specs.Sides.{arcs_in}
 use Rattle.round_kernel.specs.Queues.{IsQueue}
 use Rattle.round_kernel.specs.Frames.{count_in}
 use Rattle.round_kernel.proofs.Beginning.{at-start, all-first}
-use Rattle.round_kernel.proofs.Sending.{sent-at, sent-elsewhere}
+use Rattle.round_kernel.proofs.Sending.{sent-at}
 use Rattle.round_kernel.proofs.round.Lists.new.Goals as goal
 
 pub send_all-requires-clause-size : goal.send_all-requires-clause-size
 send_all-requires-clause-size g c = ap (λ (vs : List Val). length vs) (c.deref-5.ensures.value ∙ c.in_ok-starts.ensures) ∙ length-map-range_with_len (start_of c.args.frame.program.now c.args.frame.graph.now) 0 (count_in c.args.frame)
 
 pub send_all-requires-clause-degrees_size : goal.send_all-requires-clause-degrees_size
-send_all-requires-clause-degrees_size g c = ap (λ (ds : List ℕ). length ds) c.deref-6.ensures.value ∙ c.in_ok-old_degrees.ensures.size ∙ c.node_count-count.ensures.count
+send_all-requires-clause-degrees_size g c = ap (λ (ds : List ℕ). length ds) c.deref-6.ensures.value ∙ c.in_ok-new_degrees.ensures.size ∙ c.node_count-count.ensures.count
 
 pub send_all-requires-clause-small : goal.send_all-requires-clause-small
-send_all-requires-clause-small g c = λ u low. subst (λ (ds : List ℕ). get_or ds u 0 < 2 ^ 32) (sym c.deref-6.ensures.value) (c.in_ok-old_degrees.ensures.small u (omega (arith, low, c.node_count-count.ensures.count)))
-
-pub send_or_copy-requires-clause-size : goal.send_or_copy-requires-clause-size
-send_or_copy-requires-clause-size g c = ap (λ (vs : List Val). length vs) (c.deref-7.ensures.value ∙ c.in_ok-starts.ensures) ∙ length-map-range_with_len (start_of c.args.frame.program.now c.args.frame.graph.now) 0 (count_in c.args.frame)
-
-pub send_or_copy-requires-clause-degrees_size : goal.send_or_copy-requires-clause-degrees_size
-send_or_copy-requires-clause-degrees_size g c = ap (λ (ds : List ℕ). length ds) c.deref-8.ensures.value ∙ c.in_ok-new_degrees.ensures.size ∙ c.node_count-count.ensures.count
-
-pub send_or_copy-requires-clause-small : goal.send_or_copy-requires-clause-small
-send_or_copy-requires-clause-small g c = λ u low. subst (λ (ds : List ℕ). get_or ds u 0 < 2 ^ 32) (sym c.deref-8.ensures.value) (c.in_ok-new_degrees.ensures.small u (omega (arith, low, c.node_count-count.ensures.count)))
-
-pub send_or_copy-requires-clause-others : goal.send_or_copy-requires-clause-others
-send_or_copy-requires-clause-others g c = λ e.
-    let f = c.args.frame in
-    sent-elsewhere c.may_keep-alike.result f.program.now f.graph.now _ _ _ _ (c.requires.degree e)
-    (sent-at c.may_keep-alike.result f.program.now f.graph.now _ _ _ _ _ _ refl (c.deref-7.ensures.value ∙ sym c.deref-5.ensures.value) c.deref-9.ensures.value c.in_ok-old_sent.ensures)
+send_all-requires-clause-small g c = λ u low. subst (λ (ds : List ℕ). get_or ds u 0 < 2 ^ 32) (sym c.deref-6.ensures.value) (c.in_ok-new_degrees.ensures.small u (omega (arith, low, c.node_count-count.ensures.count)))
 
 pub returns-clause-at : goal.returns-clause-at
 returns-clause-at g c =
@@ -51,9 +36,7 @@ returns-clause-at g c =
       new_now = c.in_ok-new_now.new_now;
       new_before = c.in_ok-new_before.new_before;
       alike = c.may_keep-alike.result;
-      old_sent = c.in_ok-old_sent.old_sent;
       new_sent = c.in_ok-new_sent.new_sent;
-      before_sent = c.in_ok-before_sent.before_sent;
       old_degrees = c.in_ok-old_degrees.old_degrees;
       new_degrees = c.in_ok-new_degrees.new_degrees;
       touched = c.in_ok-touched.touched;
@@ -88,7 +71,5 @@ returns-clause-at g c =
     (c.in_ok-watched.ensures.size ∙ count)
     c.in_ok-watched.ensures.tails
     c.may_keep-alike.ensures
-    (sent-at lists.alike f.program.now f.graph.now _ _ _ _ _ _ (sym c.deref-8.ensures.value) (sym c.deref-7.ensures.value) refl c.in_ok-new_sent.ensures)
-    (sent-at lists.alike f.program.now f.graph.now _ _ _ _ _ _ (sym c.deref-6.ensures.value) (sym c.deref-5.ensures.value) refl c.in_ok-old_sent.ensures)
-    (c.in_ok-before_sent.ensures.items ∙ c.deref-10.ensures.value)
+    (sent-at lists.alike f.program.now f.graph.now _ _ _ _ _ _ (sym c.deref-6.ensures.value) (sym c.deref-5.ensures.value) refl c.in_ok-new_sent.ensures)
     (subst (λ (k : ℕ). IsQueue k c.in_ok-queue.queue) count c.in_ok-queue.ensures.queue)
