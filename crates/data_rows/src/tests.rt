@@ -2,6 +2,7 @@
 
 mod graphs;
 mod hostile_files;
+mod loading;
 mod matrices;
 mod predicates;
 mod two_ways;

@@ -24,6 +24,3 @@ mod spelling;
 
 pub use fault::{DataFault, DataFile, DataKind, LoadFault};
 pub use loading::load;
-
-#[cfg(test)]
-mod tests;

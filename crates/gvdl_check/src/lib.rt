@@ -29,6 +29,3 @@ pub use fault::CheckFault;
 pub use laws::{plans_continue, plans_fit};
 pub use plan::{CollectionPlan, OrderRule, Plan, RunPlan, Step, ViewPlan};
 pub use script::check;
-
-#[cfg(test)]
-mod tests;

@@ -24,6 +24,3 @@ mod view;
 
 pub use fault::{ParseFault, ScriptFault};
 pub use parser::parse;
-
-#[cfg(test)]
-mod tests;

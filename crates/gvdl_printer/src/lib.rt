@@ -20,6 +20,3 @@ mod run;
 mod view;
 
 pub use printer::{print, print_call};
-
-#[cfg(test)]
-mod tests;

@@ -31,6 +31,3 @@ pub use spelling::{
 pub use token::{Kind, Sign, SmallNumber, Token};
 pub use tokens::{Ending, Tokens};
 pub use word::Word;
-
-#[cfg(test)]
-mod tests;

@@ -1,6 +1,6 @@
 //! Scripts with two mistakes each, and their first fault.
 
-use crate::tests::told::told;
+use crate::tests::checking::told::told;
 use std::test::Fail;
 
 #[test]

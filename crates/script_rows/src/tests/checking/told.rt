@@ -1,8 +1,8 @@
 //! What the check says of a script, as a text.
 
-use crate::{CheckFault, CollectionPlan, OrderRule, Plan, RunPlan, Step, ViewPlan, check};
 use edge_predicates::{Cmp, Place, Pred};
 use graph_loader::load;
+use gvdl_check::{CheckFault, CollectionPlan, OrderRule, Plan, RunPlan, Step, ViewPlan, check};
 use gvdl_parser::{ScriptFault, parse};
 use std::alloc::{AllocError, Global};
 use std::test::Fail;

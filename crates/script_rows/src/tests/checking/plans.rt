@@ -1,6 +1,6 @@
 //! Scripts without a fault, and their plans.
 
-use crate::tests::told::told;
+use crate::tests::checking::told::told;
 use std::test::Fail;
 
 #[test]

@@ -2,7 +2,7 @@
 
 ghost use Rattle.std.specs.Prelude.{◌<◌, length};
 
-use crate::{DataFault, LoadFault, load};
+use graph_loader::{DataFault, LoadFault, load};
 use graph_model::{CellRef, Column, EdgeNo, Graph, Kind, NodeNo};
 use std::alloc::{AllocError, Global};
 use std::process::Abort;

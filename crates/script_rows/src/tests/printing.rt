@@ -2,8 +2,8 @@
 
 ghost use Rattle.std.specs.Prelude.{◌≡◌, ◌<◌, ◌^◌, length, IfOk};
 
-use crate::{print, print_call};
 use gvdl_parser::{ParseFault, parse};
+use gvdl_printer::{print, print_call};
 use gvdl_tree::{Arg, Call, Script};
 use std::alloc::Global;
 use std::test::Fail;

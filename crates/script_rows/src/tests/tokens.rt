@@ -1,4 +1,4 @@
-use crate::{Ending, Kind, LexFault, Place, Token, is_name, lex, push_token};
+use gvdl_tokens::{Ending, Kind, LexFault, Place, Token, is_name, lex, push_token};
 use std::alloc::Global;
 use std::test::Fail;
 use surge_outside::List;

@@ -7,7 +7,7 @@ mod table;
 mod trees;
 mod whole;
 
-use crate::{ParseFault, ScriptFault, parse};
+use gvdl_parser::{ParseFault, ScriptFault, parse};
 use std::alloc::{AllocError, Global};
 
 /// The load that stands on the first line before each text of a table.

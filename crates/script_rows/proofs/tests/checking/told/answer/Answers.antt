@@ -2,7 +2,7 @@
 use Rattle.std.proofs.Common.{◌<◌, ◌^◌, length, arith, rules}
 use Rattle.std.proofs.lemmas.Grind.{common_steps}
 use Rattle.gvdl_check.specs.Written.{written_so}
-use Rattle.gvdl_check.proofs.tests.told.answer.Goals as goal
+use Rattle.script_rows.proofs.tests.checking.told.answer.Goals as goal
 
 pub check-requires : goal.check-requires
 check-requires c =

@@ -1,7 +1,7 @@
 //! The trees of texts, as they are shown for debugging.
 
 use super::LOAD;
-use crate::parse;
+use gvdl_parser::parse;
 use std::alloc::{AllocError, Global};
 use std::process::Abort;
 use std::test::Fail;

@@ -1,0 +1,4 @@
+mod checking;
+mod parsing;
+mod printing;
+mod tokens;
