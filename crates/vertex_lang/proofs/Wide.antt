@@ -1,10 +1,9 @@
 -- Numbers of 64 bits, computed with in 128.
-use Rattle.std.proofs.Common.{◌≡◌, ◌∙◌, ◌+◌, ◌*◌, ◌/◌, ◌<◌, ◌≤◌, ℕ, zero, suc, ℤ, pos, negsuc, ◌+ℤ◌, neg_ℤ, ◌≤ℤ◌, FitsSigned, w64, ap, subst, refl, arith, lit<}
+use Rattle.std.proofs.Common.{◌≡◌, ◌∙◌, ◌+◌, ◌*◌, ◌<◌, ◌≤◌, ℕ, suc, ℤ, pos, negsuc, ◌+ℤ◌, neg_ℤ, ◌≤ℤ◌, FitsSigned, w64, ap, subst, arith, lit<}
 use Rattle.std.specs.Prelude.{◌*ℤ◌, unsigned_abs}
 use Rattle.std.specs.Int.{w128, cast_signed, cast_unsigned}
-use Rattle.std.specs.Int.RustNames.{int_div}
-use Rattle.std.proofs.Math.Nat.{div-le_self, mul-le-mul_left}
-use Rattle.std.proofs.lemmas.Int.{ints, to_z-of_z, quot_is, fits_signed_from_abs, fits_signed_mul, unsigned_abs-mul}
+use Rattle.std.proofs.Math.Nat.{mul-le-mul_left}
+use Rattle.std.proofs.lemmas.Int.{ints, to_z-of_z, fits_signed_from_abs, fits_signed_mul, unsigned_abs-mul}
 use Rattle.graph_model.specs.declared.value.Val.{Val}
 use Rattle.vertex_lang.specs.declared.mail.Mail.{Mail}
 use Rattle.vertex_lang.specs.Mail.{IsBounded}
@@ -46,19 +45,6 @@ product_is a b f g =
     ap (λ (z : ℤ). kept (z *ℤ kept b)) (to_z-of_z w128 a (wide a f))
     ∙ ap (λ (z : ℤ). kept (a *ℤ z)) (to_z-of_z w128 b (wide b g))
     ∙ to_z-of_z w128 (a *ℤ b) (product_fits a b f g)
-
-abs_neg : (q : ℕ) → unsigned_abs (neg_ℤ (pos q)) ≡ q
-abs_neg zero = refl
-abs_neg (suc q) = refl
-
-abs_quotient : (a b : ℤ) → unsigned_abs (int_div a b) ≤ unsigned_abs a
-abs_quotient (pos a) (pos b) = div-le_self a b
-abs_quotient (pos a) (negsuc b) = omega (arith, abs_neg (a / suc b), div-le_self a (suc b))
-abs_quotient (negsuc a) (pos b) = omega (arith, abs_neg (suc a / b), div-le_self (suc a) b)
-abs_quotient (negsuc a) (negsuc b) = div-le_self (suc a) (suc b)
-
-pub quotient_is : (a b : ℤ) → FitsSigned w64 a → FitsSigned w64 b → kept (int_div (kept a) (kept b)) ≡ int_div a b
-quotient_is a b f g = quot_is w128 a b (wide a f) (wide b g) (from_small (int_div a b) (omega (arith, abs_quotient a b, abs_small a f)))
 
 -- ---- sums of messages
 

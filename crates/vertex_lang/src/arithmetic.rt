@@ -1,6 +1,7 @@
 //! Arithmetic of values.
 
-ghost use Rattle.std.specs.Prelude.{◌≡◌, ◌<ℤ◌, ◌≤ℤ◌, pos, negsuc};
+ghost use Rattle.std.specs.Prelude.{◌≡◌, ◌≢◌, ◌<ℤ◌, ◌≤ℤ◌, pos, negsuc};
+ghost use Rattle.std.specs.Int.RustNames.{int_div};
 ghost use Rattle.vertex_lang.specs.Values.{clamped, added, multiplied, divided, scaled, negated, lesser, greater, in_range, compares, number_compares, exact_sum, is_nil};
 
 use crate::program::Cmp;
@@ -69,11 +70,20 @@ fn divide(left: Val, right: Val) -> Val
     ensures { result ≡ divided left right }
 {
     match (left, right) {
-        (Val::Num(a), Val::Num(b)) if b != 0 => {
-            Val::Num(clamp_number(i128::from(a) / i128::from(b)))
-        }
+        (Val::Num(a), Val::Num(b)) if b != 0 => Val::Num(quotient(a, b)),
         _ => Val::Nil,
     }
+}
+
+// The quotient of two numbers, cut towards zero and clamped. Only that of -(2^63) can be out of range.
+fn quotient(a: i64, b: i64) -> i64
+    requires { b ≢ pos 0 }
+    ensures { result ≡ clamped (int_div a b) }
+{
+    if a < -GREATEST {
+        return clamp_number(i128::from(a) / i128::from(b));
+    }
+    a / b
 }
 
 /// The number with the other sign, clamped. Of none it is none.

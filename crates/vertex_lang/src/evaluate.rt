@@ -27,11 +27,11 @@ pub(crate) fn evaluate(expr: &Expr, words: &Words<'_>) -> Val
         }
         Expr::Else(members) => first_value(members.as_slice(), words),
         Expr::Sum(first, rest) => {
-            let first = evaluate(first.get(), words);
+            let first = operand(first.get(), words);
             add_all(first, rest.as_slice(), words)
         }
         Expr::Product(first, rest) => {
-            let first = evaluate(first.get(), words);
+            let first = operand(first.get(), words);
             scale_all(first, rest.as_slice(), words)
         }
         Expr::Minus(positive) => {
@@ -49,15 +49,31 @@ pub(crate) fn evaluate(expr: &Expr, words: &Words<'_>) -> Val
         Expr::EdgeProp(column) => words.properties.of_edge(*column),
         Expr::NodeProp(column) => words.properties.of_node(*column),
         Expr::Least(left, right) => {
-            let left = evaluate(left.get(), words);
-            let right = evaluate(right.get(), words);
+            let left = operand(left.get(), words);
+            let right = operand(right.get(), words);
             clamp(lesser_of(left, right))
         }
         Expr::Most(left, right) => {
-            let left = evaluate(left.get(), words);
-            let right = evaluate(right.get(), words);
+            let left = operand(left.get(), words);
+            let right = operand(right.get(), words);
             clamp(greater_of(left, right))
         }
+    }
+}
+
+// The value of an operand. The words that stand alone most often cost no call back.
+#[cycle(evaluation)]
+fn operand(expr: &Expr, words: &Words<'_>) -> Val
+    requires { AreProper words.now }
+    ensures { result ≡ value_of expr.now (environment words.now) }
+{
+    match expr {
+        Expr::Number(number) => Val::Num(*number),
+        Expr::Start => words.start,
+        Expr::Value => words.value,
+        Expr::Gathered => words.gathered,
+        Expr::Outdeg => Val::Num(words.outdeg as i64),
+        _ => evaluate(expr, words),
     }
 }
 
@@ -117,7 +133,7 @@ fn add_all(first: Val, rest: &[(bool, Expr)], words: &Words<'_>) -> Val
 {
     let mut sum = first;
     for (plus, expr) in rest {
-        let value = evaluate(expr, words);
+        let value = operand(expr, words);
         sum = add(*plus, sum, value);
     }
     sum
@@ -131,7 +147,7 @@ fn scale_all(first: Val, rest: &[(bool, Expr)], words: &Words<'_>) -> Val
 {
     let mut product = first;
     for (times, expr) in rest {
-        let value = evaluate(expr, words);
+        let value = operand(expr, words);
         product = scale(*times, product, value);
     }
     product

@@ -50,28 +50,28 @@ pub evaluate-returns-in-Sum : goal.evaluate-returns-in-Sum
 evaluate-returns-in-Sum t c =
     let words = environment c.args.words.now in
     let chain = λ (v : Val) (rest : List (Bool × Expr)). fold (λ sum member. added member.0 sum (value_of member.1 words)) v rest in
-    let first : c.evaluate-first.result ≡ value_of c.in-Sum.first words = c.evaluate-first.ensures ∙ ap (λ (e : Expr). value_of e words) c.get-in-Sum.ensures in
+    let first : c.operand-first.result ≡ value_of c.in-Sum.first words = c.operand-first.ensures ∙ ap (λ (e : Expr). value_of e words) c.get-in-Sum.ensures in
     c.add_all.ensures ∙ ap (λ (v : Val). chain v c.as_slice-in-Sum.result.now) first ∙ ap (λ (rest : List (Bool × Expr)). chain (value_of c.in-Sum.first words) rest) c.as_slice-in-Sum.ensures ∙ sym (ap (λ (e : Expr). value_of e words) c.in-Sum.is ∙ value-Sum c.in-Sum.first c.in-Sum.rest words)
 
 pub evaluate-returns-in-Least : goal.evaluate-returns-in-Least
 evaluate-returns-in-Least t c =
     let words = environment c.args.words.now in
-    let left : c.evaluate-left.result ≡ value_of c.in-Least.left words = c.evaluate-left.ensures ∙ ap (λ (e : Expr). value_of e words) c.get-in-Least.ensures in
-    let right : c.evaluate-right.result ≡ value_of c.in-Least.right words = c.evaluate-right.ensures ∙ ap (λ (e : Expr). value_of e words) c.get-in-Least-2.ensures in
-    c.clamp.ensures ∙ ap in_range (c.lesser_of.ensures ∙ ap (λ (v : Val). lesser v c.evaluate-right.result) left ∙ ap (λ (v : Val). lesser (value_of c.in-Least.left words) v) right) ∙ sym (ap (λ (e : Expr). value_of e words) c.in-Least.is ∙ value-Least c.in-Least.left c.in-Least.right words)
+    let left : c.operand-left.result ≡ value_of c.in-Least.left words = c.operand-left.ensures ∙ ap (λ (e : Expr). value_of e words) c.get-in-Least.ensures in
+    let right : c.operand-right.result ≡ value_of c.in-Least.right words = c.operand-right.ensures ∙ ap (λ (e : Expr). value_of e words) c.get-in-Least-2.ensures in
+    c.clamp.ensures ∙ ap in_range (c.lesser_of.ensures ∙ ap (λ (v : Val). lesser v c.operand-right.result) left ∙ ap (λ (v : Val). lesser (value_of c.in-Least.left words) v) right) ∙ sym (ap (λ (e : Expr). value_of e words) c.in-Least.is ∙ value-Least c.in-Least.left c.in-Least.right words)
 
 pub evaluate-returns-in-Most : goal.evaluate-returns-in-Most
 evaluate-returns-in-Most t c =
     let words = environment c.args.words.now in
-    let left : c.evaluate-left-in-Most.result ≡ value_of c.in-Most.left words = c.evaluate-left-in-Most.ensures ∙ ap (λ (e : Expr). value_of e words) c.get-in-Most.ensures in
-    let right : c.evaluate-right-in-Most.result ≡ value_of c.in-Most.right words = c.evaluate-right-in-Most.ensures ∙ ap (λ (e : Expr). value_of e words) c.get-in-Most-2.ensures in
-    c.clamp-in-Most.ensures ∙ ap in_range (c.greater_of.ensures ∙ ap (λ (v : Val). greater v c.evaluate-right-in-Most.result) left ∙ ap (λ (v : Val). greater (value_of c.in-Most.left words) v) right) ∙ sym (ap (λ (e : Expr). value_of e words) c.in-Most.is ∙ value-Most c.in-Most.left c.in-Most.right words)
+    let left : c.operand-left-in-Most.result ≡ value_of c.in-Most.left words = c.operand-left-in-Most.ensures ∙ ap (λ (e : Expr). value_of e words) c.get-in-Most.ensures in
+    let right : c.operand-right-in-Most.result ≡ value_of c.in-Most.right words = c.operand-right-in-Most.ensures ∙ ap (λ (e : Expr). value_of e words) c.get-in-Most-2.ensures in
+    c.clamp-in-Most.ensures ∙ ap in_range (c.greater_of.ensures ∙ ap (λ (v : Val). greater v c.operand-right-in-Most.result) left ∙ ap (λ (v : Val). greater (value_of c.in-Most.left words) v) right) ∙ sym (ap (λ (e : Expr). value_of e words) c.in-Most.is ∙ value-Most c.in-Most.left c.in-Most.right words)
 
 pub evaluate-returns-in-Product : goal.evaluate-returns-in-Product
 evaluate-returns-in-Product t c =
     let words = environment c.args.words.now in
     let chain = λ (v : Val) (rest : List (Bool × Expr)). fold (λ product member. scaled member.0 product (value_of member.1 words)) v rest in
-    let first : c.evaluate-first-in-Product.result ≡ value_of c.in-Product.first words = c.evaluate-first-in-Product.ensures ∙ ap (λ (e : Expr). value_of e words) c.get-in-Product.ensures in
+    let first : c.operand-first-in-Product.result ≡ value_of c.in-Product.first words = c.operand-first-in-Product.ensures ∙ ap (λ (e : Expr). value_of e words) c.get-in-Product.ensures in
     c.scale_all.ensures ∙ ap (λ (v : Val). chain v c.as_slice-in-Product.result.now) first ∙ ap (λ (rest : List (Bool × Expr)). chain (value_of c.in-Product.first words) rest) c.as_slice-in-Product.ensures ∙ sym (ap (λ (e : Expr). value_of e words) c.in-Product.is ∙ value-Product c.in-Product.first c.in-Product.rest words)
 
 pub evaluate-returns-in-Else : goal.evaluate-returns-in-Else
@@ -96,6 +96,21 @@ evaluate-returns-in-EdgeProp t c = c.of_edge.ensures ∙ sym (ap (λ (e : Expr).
 
 pub evaluate-returns-in-NodeProp : goal.evaluate-returns-in-NodeProp
 evaluate-returns-in-NodeProp t c = c.of_node.ensures ∙ sym (ap (λ (e : Expr). value_of e (environment c.args.words.now)) c.in-NodeProp.is ∙ value-NodeProp c.in-NodeProp.column (environment c.args.words.now))
+
+pub operand-returns-in-Number : goal.operand-returns-in-Number
+operand-returns-in-Number t c = search (rules, value-Number)
+
+pub operand-returns-in-Start : goal.operand-returns-in-Start
+operand-returns-in-Start t c = search (rules, value-Start)
+
+pub operand-returns-in-Value : goal.operand-returns-in-Value
+operand-returns-in-Value t c = search (rules, value-Value)
+
+pub operand-returns-in-Gathered : goal.operand-returns-in-Gathered
+operand-returns-in-Gathered t c = search (rules, value-Gathered)
+
+pub operand-returns-in-Outdeg : goal.operand-returns-in-Outdeg
+operand-returns-in-Outdeg t c = search (rules, value-Outdeg)
 
 pub check_holds-returns-in-Compare : goal.check_holds-returns-in-Compare
 check_holds-returns-in-Compare t c = search (rules, holds-Compare)
