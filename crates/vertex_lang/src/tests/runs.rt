@@ -87,17 +87,26 @@ fn run(alloc: Global, program: &Program, edges: &[EdgeNo], rounds: Rounds) -> Re
     run_in::<Brand>(alloc, program, edges, rounds, Blank::new(1))
 }
 
+// Two edges from the first node to the second.
+fn over_parallel_edges(alloc: Global) -> Result<Lone, NoMemory> {
+    let edges = [EdgeNo(0), EdgeNo(1)];
+    run(alloc, &counts(Along::Out), &edges, Rounds::For(1))
+}
+
+// An edge from a node to itself, along both directions.
+fn over_an_edge_to_itself(alloc: Global) -> Result<Lone, NoMemory> {
+    run(alloc, &counts(Along::Both), &[EdgeNo(2)], Rounds::For(1))
+}
+
 #[test]
 fn arcs_each_count(rt: HostRuntime) -> Result<(), Fail> {
-    let out = counts(Along::Out);
-    let parallel = run(rt.alloc(), &out, &[EdgeNo(0), EdgeNo(1)], Rounds::For(1))?;
+    let parallel = over_parallel_edges(rt.alloc())?;
     assert_eq!(rt; parallel.outcome, Outcome::After(1));
     assert_eq!(rt;
         parallel.values.as_slice(),
         [Val::Num(0), Val::Num(2)].as_slice()
     );
-    let both = counts(Along::Both);
-    let to_itself = run(rt.alloc(), &both, &[EdgeNo(2)], Rounds::For(1))?;
+    let to_itself = over_an_edge_to_itself(rt.alloc())?;
     assert_eq!(rt;
         to_itself.values.as_slice(),
         [Val::Num(0), Val::Num(2)].as_slice()
@@ -105,10 +114,15 @@ fn arcs_each_count(rt: HostRuntime) -> Result<(), Fail> {
     Ok(())
 }
 
+// Against the direction of three edges.
+fn over_edges_back(alloc: Global) -> Result<Lone, NoMemory> {
+    let edges = [EdgeNo(0), EdgeNo(1), EdgeNo(3)];
+    run(alloc, &degrees(Along::In), &edges, Rounds::For(1))
+}
+
 #[test]
 fn degrees_count_arcs_that_leave(rt: HostRuntime) -> Result<(), Fail> {
-    let edges = [EdgeNo(0), EdgeNo(1), EdgeNo(3)];
-    let back = run(rt.alloc(), &degrees(Along::In), &edges, Rounds::For(1))?;
+    let back = over_edges_back(rt.alloc())?;
     assert_eq!(rt;
         back.values.as_slice(),
         [Val::Num(2), Val::Num(1)].as_slice()
@@ -116,24 +130,46 @@ fn degrees_count_arcs_that_leave(rt: HostRuntime) -> Result<(), Fail> {
     Ok(())
 }
 
+// Values over one edge.
+fn over_one_edge(alloc: Global, rounds: Rounds) -> Result<Lone, NoMemory>
+    requires at_least { 1 ≤ number_of rounds }
+    requires limit { number_of rounds ≤ 1_000_000 }
+{
+    run(alloc, &values(), &[EdgeNo(0)], rounds)
+}
+
 #[test]
-fn runs_end(rt: HostRuntime) -> Result<(), Fail> {
-    let values = values();
-    let settled = run(rt.alloc(), &values, &[EdgeNo(0)], Rounds::Within(3))?;
+fn a_run_settles(rt: HostRuntime) -> Result<(), Fail> {
+    let settled = over_one_edge(rt.alloc(), Rounds::Within(3))?;
     assert_eq!(rt; settled.outcome, Outcome::Settled(2));
     assert_eq!(rt; settled.values.as_slice(), [Val::Nil, Val::Nil].as_slice());
-    let unsettled = run(rt.alloc(), &values, &[EdgeNo(0)], Rounds::Within(2))?;
-    assert_eq!(rt; unsettled.outcome, Outcome::Unsettled);
-    assert_eq!(rt; unsettled.values.len(), 0);
-    let after = run(rt.alloc(), &values, &[EdgeNo(0)], Rounds::For(4))?;
-    assert_eq!(rt; after.outcome, Outcome::After(4));
     Ok(())
 }
 
 #[test]
-fn all_nodes_change_together(rt: HostRuntime) -> Result<(), Fail> {
+fn a_run_does_not_settle(rt: HostRuntime) -> Result<(), Fail> {
+    let unsettled = over_one_edge(rt.alloc(), Rounds::Within(2))?;
+    assert_eq!(rt; unsettled.outcome, Outcome::Unsettled);
+    assert_eq!(rt; unsettled.values.len(), 0);
+    Ok(())
+}
+
+#[test]
+fn a_run_ends_after_its_rounds(rt: HostRuntime) -> Result<(), Fail> {
+    let after = over_one_edge(rt.alloc(), Rounds::For(4))?;
+    assert_eq!(rt; after.outcome, Outcome::After(4));
+    Ok(())
+}
+
+// Values over an edge there and one back.
+fn over_there_and_back(alloc: Global) -> Result<Lone, NoMemory> {
     let edges = [EdgeNo(0), EdgeNo(3)];
-    let exchanged = run(rt.alloc(), &values(), &edges, Rounds::For(1))?;
+    run(alloc, &values(), &edges, Rounds::For(1))
+}
+
+#[test]
+fn all_nodes_change_together(rt: HostRuntime) -> Result<(), Fail> {
+    let exchanged = over_there_and_back(rt.alloc())?;
     assert_eq!(rt;
         exchanged.values.as_slice(),
         [Val::Num(2), Val::Num(1)].as_slice()
