@@ -27,8 +27,8 @@ fn due_round<T: Time>(due: Pair<T, Round>, t: T, round: u32, rounds: u32) -> u32
     }
 }
 
-/// The first round at `t`, from `round` on, that has to be taken: `round` where the change isn't empty, else the first at
-/// which the body may have something due, and `rounds` where there is none. Rounds before it can be skipped.
+/// The first round at `t`, from `round` on, that has to be taken: `round` where the change isn't empty, else the first
+/// at which the body may have something due, and `rounds` where there is none. Rounds before it can be skipped.
 pub(crate) fn busy_round<
     T: Time,
     U: Counted,

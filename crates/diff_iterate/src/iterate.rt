@@ -17,9 +17,9 @@ use surge_outside::{Counted, NoMemory, Record};
 use weighted::Batch;
 
 /// The operator that applies a body again and again, so many rounds. The body is an operator over pairs of a time and a
-/// round, from the fixed part and a collection to a collection. At round 0 the loop makes the moving part that it is fed,
-/// and at each later round the change that one more application of the body makes. It charges what its body charges, and
-/// what is due to its body at a round is due to it.
+/// round, from the fixed part and a collection to a collection. At round 0 the loop makes the moving part that it is
+/// fed, and at each later round the change that one more application of the body makes. It charges what its body
+/// charges, and what is due to its body at a round is due to it.
 #[derive(Drop)]
 pub struct Iterate<B: Operator<Pair<T, Round>, U>, T: Time, U: Counted> {
     alloc: Global,
@@ -31,8 +31,8 @@ pub struct Iterate<B: Operator<Pair<T, Round>, U>, T: Time, U: Counted> {
     ghost level: { B.spent body ≡ false → (B.seal body).inner.0 ≡ 0 },
 }
 
-// `LoopInput<F, X>` is a record wherever F and X are. It is asked for here as well, so that its one order is that of the body's
-// input.
+// `LoopInput<F, X>` is a record wherever F and X are. It is asked for here as well, so that its one order is that of
+// the body's input.
 impl<
     T: Time,
     U: Counted,
@@ -43,13 +43,15 @@ impl<
 where
     LoopInput<F, X>: Record + Ord + Eq + PartialOrd + PartialEq,
 {
-    /// The loop of a body that was not stepped yet, of 1 to 1,000,000 rounds. It takes no memory; its steps use `alloc`.
+    /// The loop of a body that was not stepped yet, of 1 to 1,000,000 rounds. It takes no memory; its steps use
+    /// `alloc`.
     pub fn new(alloc: Global, body: B, rounds: u32) -> Iterate<B, T, U>
         requires body { IsFresh B.stands B.due B.seal B.spent ⟦<Pair<T, Round> as Time>⟧.least body }
         requires some { 1 ≤ rounds }
         requires few { rounds ≤ 1000000 }
         ensures fresh { let it = ⟦<Iterate<B, T, U> as Operator<T, U>>⟧ in IsFresh it.stands it.due it.seal it.spent T.least result }
         ensures apply { ⟦<Iterate<B, T, U> as Operator<T, U>>⟧.apply result ≡ loop_apply (B.apply body) rounds }
+        ensures kept { ⟦<Iterate<B, T, U> as Operator<T, U>>⟧.kept result ≡ (B.kept body, rounds) }
         ensures charge { ⟦<Iterate<B, T, U> as Operator<T, U>>⟧.charge result ≡ B.charge body }
         ensures body { result.body ≡ body }
         ensures rounds { result.rounds ≡ rounds }
@@ -63,9 +65,10 @@ where
         }
     }
 
-    /// The body, lent. For each run for which the loop stands, the body stands for the run of its laps: one step a round of
-    /// each step of the loop. At each round of a time at or above the seal with nothing due at or below it, the body was
-    /// fed the fixed part and what so many applications give, and made what one more gives. It takes no memory.
+    /// The body, lent. For each run for which the loop stands, the body stands for the run of its laps: one step a
+    /// round of each step of the loop. At each round of a time at or above the seal with nothing due at or below it,
+    /// the body was fed the fixed part and what so many applications give, and made what one more gives. It takes no
+    /// memory.
     pub fn body(&self) -> &B
         ensures body { result.now ≡ self.now.body }
         ensures run { (run : Run T (LoopInput F X) (Round × X)) → ⟦<Iterate<B, T, U> as Operator<T, U>>⟧.stands self.now run → StandsByLaps (B.stands result.now) self.now.rounds run }
@@ -96,6 +99,10 @@ where
     ghost seal = { λ s. (B.seal s.body).outer };
 
     ghost apply = { λ s. loop_apply (B.apply s.body) s.rounds };
+
+    ghost Kept = { B.Kept × ℕ };
+
+    ghost kept = { λ s. (B.kept s.body, s.rounds) };
 
     ghost charge = { λ s. B.charge s.body };
 

@@ -15,8 +15,8 @@ use std::alloc::Global;
 use surge_outside::{Counted, List, NoMemory, Record};
 use weighted::{Batch, Weight};
 
-/// Round 0: feeds the body what came in, adds to the entries what the loop makes at rounds 0 and 1, and answers the change
-/// that round 1 is to be fed: what the body made, with the moving part taken away.
+/// Round 0: feeds the body what came in, adds to the entries what the loop makes at rounds 0 and 1, and answers the
+/// change that round 1 is to be fed: what the body made, with the moving part taken away.
 fn begin_lap<
     T: Time,
     U: Counted,
@@ -45,6 +45,7 @@ where
     ensures level { B.spent body.new ≡ false → (B.seal body.new).inner.0 ≡ 0 }
     ensures live { OnOk result (B.spent body.new ≡ false) }
     ensures apply { B.apply body.new ≡ B.apply body.old }
+    ensures kept { B.kept body.new ≡ B.kept body.old }
     ensures charge { B.charge body.old ≤ B.charge body.new }
     ensures calls { U.calls updater.old ≤ U.calls updater.new }
     ensures cost { U.calls updater.new + B.charge body.old ≤ U.calls updater.old + B.charge body.new }
@@ -91,6 +92,7 @@ where
     ensures level { B.spent body.new ≡ false → (B.seal body.new).inner.0 ≡ 0 }
     ensures live { OnOk result (B.spent body.new ≡ false) }
     ensures apply { B.apply body.new ≡ B.apply body.old }
+    ensures kept { B.kept body.new ≡ B.kept body.old }
     ensures charge { B.charge body.old ≤ B.charge body.new }
     ensures calls { U.calls updater.old ≤ U.calls updater.new }
     ensures cost { U.calls updater.new + B.charge body.old ≤ U.calls updater.old + B.charge body.new }

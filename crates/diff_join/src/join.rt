@@ -19,9 +19,9 @@ use surge_outside::{Counted, List, NoMemory, Record};
 use trace_store::Trace;
 use weighted::Batch;
 
-/// The operator that joins two collections of keys with values, which it is fed as the two sides of one: for each left and
-/// each right value of one key it makes what the pairing gives, with the product of their weights. It keeps both sides,
-/// and the products that wait for their times. It charges nothing.
+/// The operator that joins two collections of keys with values, which it is fed as the two sides of one: for each left
+/// and each right value of one key it makes what the pairing gives, with the product of their weights. It keeps both
+/// sides, and the products that wait for their times. It charges nothing.
 #[derive(Drop)]
 pub struct Join<K: Record, A: Record, B: Record, F: Pairing<K, A, B>, T: Time, U> {
     alloc: Global,
@@ -60,8 +60,8 @@ impl<K: Record, A: Record, B: Record, F: Pairing<K, A, B>, T: Time, U: Counted> 
         }
     }
 
-    /// Feeds a change at `t`, and answers the products that stand at `t`. New left differences meet the right side with its
-    /// new differences, and new right ones the left side without them, so that two of one step meet once.
+    /// Feeds a change at `t`, and answers the products that stand at `t`. New left differences meet the right side with
+    /// its new differences, and new right ones the left side without them, so that two of one step meet once.
     fn advance(
         &mut self,
         t: T,
@@ -123,6 +123,8 @@ impl<K: Record, A: Record, B: Record, F: Pairing<K, A, B>, T: Time, U: Counted> 
     ghost seal = { λ s. s.sealed };
 
     ghost apply = { λ s. joined_sides K.cmp (F.gives s.pairing) };
+
+    ghost kept = { λ s. joined_sides K.cmp (F.gives s.pairing) };
 
     ghost charge = { λ _. 0 };
 

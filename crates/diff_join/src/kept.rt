@@ -21,9 +21,9 @@ use std::ops::Bound;
 use surge_outside::{List, NoMemory, Record};
 use weighted::{Batch, Weight};
 
-/// Products that wait for their times: a collection of records, each at a time. They are in the order of their times, and
-/// at one time in that of the records. It keeps the least and the greatest record that ever waited, so that the products
-/// of one time are a range. Contracts see its entries.
+/// Products that wait for their times: a collection of records, each at a time. They are in the order of their times,
+/// and at one time in that of the records. It keeps the least and the greatest record that ever waited, so that the
+/// products of one time are a range. Contracts see its entries.
 #[derive(Drop)]
 pub(crate) struct Kept<T: Record, O: Record> {
     alloc: Global,
@@ -135,8 +135,8 @@ impl<T: Record, O: Record> Kept<T, O> {
         Ok(outputs)
     }
 
-    /// Keeps a product for its time, with its weight added to that of the same record at the same time. It takes time in
-    /// proportion to the logarithm of the number of all that are kept.
+    /// Keeps a product for its time, with its weight added to that of the same record at the same time. It takes time
+    /// in proportion to the logarithm of the number of all that are kept.
     ///
     /// Errors: out of memory.
     fn add(&mut self, product: (T, O), weight: Weight) -> Result<(), NoMemory>

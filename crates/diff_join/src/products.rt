@@ -28,8 +28,8 @@ fn push_one<T: Time, O: Record>(
     Ok(())
 }
 
-/// Adds what a pairing gives for a difference at `t` with each of some entries, at the least upper bound of both times and
-/// with the product of both weights.
+/// Adds what a pairing gives for a difference at `t` with each of some entries, at the least upper bound of both times
+/// and with the product of both weights.
 fn push_products<K: Record, V: Record, W: Record, T: Time, F: Pairing<K, V, W>>(
     products: &mut Vec<((T, F::Output), Weight)>,
     pairing: &F,
@@ -79,8 +79,8 @@ fn hold<K: Record, W: Record, T: Time>(
     Ok(())
 }
 
-/// Adds what a pairing gives for the differences of a batch at `t` with the entries of a trace. It looks up each key of the
-/// batch once, from where it found the one before.
+/// Adds what a pairing gives for the differences of a batch at `t` with the entries of a trace. It looks up each key of
+/// the batch once, from where it found the one before.
 pub(crate) fn push_all<K: Record, V: Record, W: Record, T: Time, F: Pairing<K, V, W>>(
     alloc: Global,
     products: &mut Vec<((T, F::Output), Weight)>,

@@ -71,8 +71,8 @@ fn first_step<T: Time, U: Counted, O: Operator<T, U>>(
     operator.step(t, delta, updater)
 }
 
-/// Two steps with a seal between them, or None where something is due after the first: what both make sums to the function
-/// of what both were fed.
+/// Two steps with a seal between them, or None where something is due after the first: what both make sums to the
+/// function of what both were fed.
 fn in_turn<T: Time, U: Counted, O: Operator<T, U>>(
     operator: &mut O,
     first: T,

@@ -23,8 +23,8 @@ use surge_outside::{Counted, List, NoMemory, Record};
 use trace_store::Trace;
 use weighted::Weight;
 
-/// What is made of keys and the keys that are due later, as far as some keys were evaluated, and what each evaluation uses
-/// anew.
+/// What is made of keys and the keys that are due later, as far as some keys were evaluated, and what each evaluation
+/// uses anew.
 #[derive(Drop)]
 struct Work<K: Record, V: Record, O: Record, T: Time> {
     alloc: Global,
@@ -146,8 +146,8 @@ fn last_of<T: Time>(times: &[T]) -> Option<T>
     Some(times[times.len() - 1])
 }
 
-/// Replaces what is in `marks` by the times at which a key was evaluated and those of its entries, and answers the last of
-/// the former.
+/// Replaces what is in `marks` by the times at which a key was evaluated and those of its entries, and answers the last
+/// of the former.
 fn read_marks<K: Record, V: Record, T: Time>(
     points: &Pairs<K, T>,
     key: K,
@@ -165,8 +165,8 @@ fn read_marks<K: Record, V: Record, T: Time>(
 }
 
 impl<K: Record, V: Record, O: Record, T: Time> Work<K, V, O, T> {
-    /// Adds the correction of a key at `t`, and the times at which the key is due once it is evaluated. It reads the key's
-    /// entries once, and calls the logic once.
+    /// Adds the correction of a key at `t`, and the times at which the key is due once it is evaluated. It reads the
+    /// key's entries once, and calls the logic once.
     fn evaluate<U: Counted, G>(
         &mut self,
         logic: &G,
@@ -196,7 +196,8 @@ impl<K: Record, V: Record, O: Record, T: Time> Work<K, V, O, T> {
     }
 }
 
-/// Evaluates keys at a time, each once: what is made of them, and the keys that are due later. It counts each evaluation.
+/// Evaluates keys at a time, each once: what is made of them, and the keys that are due later. It counts each
+/// evaluation.
 pub(crate) fn evaluate<K: Record, V: Record, O: Record, T: Time, U: Counted, G>(
     alloc: Global,
     logic: &G,

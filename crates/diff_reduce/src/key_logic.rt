@@ -20,8 +20,8 @@ pub trait KeyLogic<U: Counted> {
     /// The function, from a key and its values with their weights to what is made of them.
     ghost gives: { Self → Self.Key → List (Self.Value × ℕ) → List (Self.Output × ℕ) };
 
-    /// Writes into `into` what is made of a key whose values, rising, have these weights, none of them zero. It may write
-    /// in any order, and a record any number of times. It calls the updater once at most.
+    /// Writes into `into` what is made of a key whose values, rising, have these weights, none of them zero. It may
+    /// write in any order, and a record any number of times. It calls the updater once at most.
     ///
     /// The caller owes that the values strictly rise with no weight zero, and that `into` is empty.
     ///

@@ -13,8 +13,8 @@ use std::marker::Model;
 use std::ops::Bound;
 use surge_outside::{List, NoMemory, Record};
 
-/// Pairs in the order of their first parts, and where these are equal of their second parts, each pair once. It keeps the
-/// least and the greatest second part since there was no pair, so that the pairs with a first part are a range.
+/// Pairs in the order of their first parts, and where these are equal of their second parts, each pair once. It keeps
+/// the least and the greatest second part since there was no pair, so that the pairs with a first part are a range.
 #[derive(Drop)]
 pub(crate) struct Pairs<A: Record, B: Record> {
     pairs: BTreeSet<(A, B)>,
@@ -93,8 +93,8 @@ impl<A: Record, B: Record> Pairs<A, B> {
         }
     }
 
-    /// Drops the pairs with a first part. It takes time in proportion to their number times the logarithm of that of all
-    /// pairs.
+    /// Drops the pairs with a first part. It takes time in proportion to their number times the logarithm of that of
+    /// all pairs.
     ///
     /// Errors: out of memory; the pairs are then as they were.
     pub(crate) fn remove(&mut self, alloc: Global, first: &A) -> Result<(), NoMemory>
@@ -121,8 +121,8 @@ impl<A: Record, B: Record> Pairs<A, B> {
         Ok(())
     }
 
-    /// Adds pairs, in any order and any number of times. It takes time in proportion to their number times the logarithm
-    /// of that of all pairs.
+    /// Adds pairs, in any order and any number of times. It takes time in proportion to their number times the
+    /// logarithm of that of all pairs.
     ///
     /// Errors: out of memory; some of the pairs may then have been added.
     pub(crate) fn add(&mut self, more: &[(A, B)]) -> Result<(), NoMemory>

@@ -26,8 +26,8 @@ use surge_outside::{Counted, List, NoMemory, Record};
 use trace_store::Trace;
 use weighted::Batch;
 
-/// The operator of a logic on the values of each key. It keeps what it was fed and what it made, for each key the times at
-/// which it was evaluated since the seal, and the keys that are due at a time. It charges each call of the logic.
+/// The operator of a logic on the values of each key. It keeps what it was fed and what it made, for each key the times
+/// at which it was evaluated since the seal, and the keys that are due at a time. It charges each call of the logic.
 #[derive(Drop)]
 pub struct Reduce<G: KeyLogic<U>, T: Time, U: Counted> {
     alloc: Global,
@@ -58,6 +58,7 @@ impl<G: KeyLogic<U>, T: Time, U: Counted> Reduce<G, T, U> {
     pub fn new(alloc: Global, logic: G) -> Reduce<G, T, U>
         ensures fresh { let it = ⟦<Reduce<G, T, U> as Operator<T, U>>⟧ in IsFresh it.stands it.due it.seal it.spent T.least result }
         ensures apply { ⟦<Reduce<G, T, U> as Operator<T, U>>⟧.apply result ≡ reduce_apply G.Key.cmp G.Value.cmp (G.gives logic) }
+        ensures kept { ⟦<Reduce<G, T, U> as Operator<T, U>>⟧.kept result ≡ reduce_apply G.Key.cmp G.Value.cmp (G.gives logic) }
         ensures charge { ⟦<Reduce<G, T, U> as Operator<T, U>>⟧.charge result ≡ 0 }
     {
         Reduce {
@@ -74,9 +75,9 @@ impl<G: KeyLogic<U>, T: Time, U: Counted> Reduce<G, T, U> {
         }
     }
 
-    /// How many times the logic was called so far, modulo 2^64: the low bits of the charge. Of each run for which the reduce
-    /// stands the charge is that at the seal and the number of keys that are evaluated at each step since, and each step was
-    /// fed a batch in normal form. It takes no memory.
+    /// How many times the logic was called so far, modulo 2^64: the low bits of the charge. Of each run for which the
+    /// reduce stands the charge is that at the seal and the number of keys that are evaluated at each step since, and
+    /// each step was fed a batch in normal form. It takes no memory.
     pub fn evaluations(&self) -> u64
         ensures charge { result ≡ ⟦<Reduce<G, T, U> as Operator<T, U>>⟧.charge self.now % 2 ^ 64 }
         ensures counted { let it = ⟦<Reduce<G, T, U> as Operator<T, U>>⟧ in (run : Run T (G.Key × G.Value) (G.Key × G.Output)) → it.stands self.now run → it.charge self.now ≡ run.base + charged T.leq T.lub T.cmp G.Key.cmp G.Value.cmp (it.seal self.now) (old_steps run) [] (new_steps run) }
@@ -151,6 +152,8 @@ impl<G: KeyLogic<U>, T: Time, U: Counted> Operator<T, U> for Reduce<G, T, U> {
     ghost seal = { λ s. s.sealed };
 
     ghost apply = { λ s. reduce_apply G.Key.cmp G.Value.cmp (G.gives s.logic) };
+
+    ghost kept = { λ s. reduce_apply G.Key.cmp G.Value.cmp (G.gives s.logic) };
 
     ghost charge = { λ s. s.count };
 

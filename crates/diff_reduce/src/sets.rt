@@ -6,8 +6,8 @@ ghost use Rattle.std.specs.List.Sorted.{IsStrictlySortedBy};
 
 use surge_outside::{NoMemory, Record};
 
-/// Puts records in order, each once, where they stand. It takes no memory, and time in proportion to their number times its
-/// logarithm.
+/// Puts records in order, each once, where they stand. It takes no memory, and time in proportion to their number times
+/// its logarithm.
 pub(crate) fn make_set<R: Record>(all: &mut Vec<R>)
     ensures rising { IsStrictlySortedBy R.cmp all.new.items }
     ensures each { (x : R) → Contains all.old.items x → Contains all.new.items x }

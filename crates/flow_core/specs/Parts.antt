@@ -5,8 +5,8 @@ use Rattle.flow_core.specs.declared.side.Side.TheVariants.{Left, Right}
 use Rattle.weighted.specs.WordLaws.{mapped}
 use Rattle.flow_core.specs.Runs.{Step, Run}
 
--- each part stands for a run that is made of the steps which the steps of the whole hand to it: links stand for the steps
--- of the whole, and whole, first and second give of each link the step of the whole and those of the parts
+-- each part stands for a run that is made of the steps which the steps of the whole hand to it: links stand for the
+-- steps of the whole, and whole, first and second give of each link the step of the whole and those of the parts
 pub record StandsByParts {T I O J M K P X : Type 0} (whole : X → Step T I O) (first : X → Step T J M) (second : X → Step T K P) (first_stands : Run T J M → Type 0) (second_stands : Run T K P → Type 0) (run : Run T I O) : Type 0 where
   pub links : List X
   pub first_base : ℕ

@@ -21,7 +21,8 @@ route_whole r = record { time = r.time; fed = r.fed; made = r.made }
 abbrev pub route_inner : {T A M O : Type 0} → Route T A M O → Step T M O
 route_inner r = record { time = r.time; fed = r.handed; made = r.given }
 
--- what is handed is one function of what is fed, and what is made is another one of it and what the operator inside gives
+-- what is handed is one function of what is fed, and what is made is another one of it and what the operator inside
+-- gives
 pub record IsRoute {T A M O : Type 0} (past : List (A × ℕ) → List (O × ℕ)) (into : List (A × ℕ) → List (M × ℕ)) (r : Route T A M O) : Type 0 where
   pub handed : Alike r.handed (into r.fed)
   pub made : Alike r.made (past r.fed ++ r.given)

@@ -10,7 +10,8 @@ pub record Step (T I O : Type 0) : Type 0 where
   pub fed : List (I × ℕ)
   pub made : List (O × ℕ)
 
--- the Ok steps, how many of them came before the last Ok seal, and the charge at that seal; both are 0 where there was none
+-- the Ok steps, how many of them came before the last Ok seal, and the charge at that seal; both are 0 where there was
+-- none
 pub record Run (T I O : Type 0) : Type 0 where
   pub steps : List (Step T I O)
   pub before : ℕ

@@ -94,6 +94,8 @@ impl<
 
     ghost apply = { λ s xs. expanded (P.gives s.past) xs ++ O.apply s.inner (expanded (E.gives s.into) xs) };
 
+    ghost kept = { λ s xs. expanded (P.gives s.past) xs ++ O.apply s.inner (expanded (E.gives s.into) xs) };
+
     ghost charge = { λ s. O.charge s.inner };
 
     ghost spent = { λ s. s.spent || O.spent s.inner };

@@ -30,6 +30,7 @@ impl<A, B> Chain<A, B> {
         requires second { IsFresh B.stands B.due B.seal B.spent T.least second }
         ensures fresh { let it = ⟦<Chain<A, B> as Operator<T, U>>⟧ in IsFresh it.stands it.due it.seal it.spent T.least result }
         ensures apply { ⟦<Chain<A, B> as Operator<T, U>>⟧.apply result ≡ (λ xs. B.apply second (A.apply first xs)) }
+        ensures kept { ⟦<Chain<A, B> as Operator<T, U>>⟧.kept result ≡ (A.kept first, B.kept second) }
         ensures charge { ⟦<Chain<A, B> as Operator<T, U>>⟧.charge result ≡ A.charge first + B.charge second }
         ensures first { result.first ≡ first }
         ensures second { result.second ≡ second }
@@ -65,6 +66,10 @@ impl<T: Time, U: Counted, A: Operator<T, U>, B: Operator<T, U, Input = A::Output
     ghost seal = { λ s. T.lub (A.seal s.first) (B.seal s.second) };
 
     ghost apply = { λ s xs. B.apply s.second (A.apply s.first xs) };
+
+    ghost Kept = { A.Kept × B.Kept };
+
+    ghost kept = { λ s. (A.kept s.first, B.kept s.second) };
 
     ghost charge = { λ s. A.charge s.first + B.charge s.second };
 

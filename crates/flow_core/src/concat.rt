@@ -14,8 +14,9 @@ use std::marker::PhantomData;
 use surge_outside::{Counted, NoMemory, Record};
 use weighted::Batch;
 
-/// The operator that adds up two collections, which it is fed as the two sides of one: the weight of a record that it makes
-/// is the sum of its weights on both sides. It keeps nothing of what it was fed, nothing is ever due, and it charges nothing.
+/// The operator that adds up two collections, which it is fed as the two sides of one: the weight of a record that it
+/// makes is the sum of its weights on both sides. It keeps nothing of what it was fed, nothing is ever due, and it
+/// charges nothing.
 #[derive(Drop)]
 pub struct Concat<A, T, U> {
     alloc: Global,
@@ -60,6 +61,8 @@ impl<A: Record, T: Time, U: Counted> Operator<T, U> for Concat<A, T, U> {
     ghost seal = { λ s. s.sealed };
 
     ghost apply = { λ _. side_sum };
+
+    ghost kept = { λ _. side_sum };
 
     ghost charge = { λ _. 0 };
 

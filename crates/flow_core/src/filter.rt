@@ -14,8 +14,8 @@ use std::marker::PhantomData;
 use surge_outside::{Counted, List, NoMemory, Record};
 use weighted::{Batch, Weight};
 
-/// The operator of a test on each record: it makes the records that pass, with their weights. It keeps nothing of what it
-/// was fed, nothing is ever due, and it charges nothing.
+/// The operator of a test on each record: it makes the records that pass, with their weights. It keeps nothing of what
+/// it was fed, nothing is ever due, and it charges nothing.
 #[derive(Drop)]
 pub struct Filter<E, A, T, U> {
     alloc: Global,
@@ -83,6 +83,8 @@ impl<E: Keep<A>, A: Record, T: Time, U: Counted> Operator<T, U> for Filter<E, A,
     ghost seal = { λ s. s.sealed };
 
     ghost apply = { λ s. filtered (E.keeps s.keep) };
+
+    ghost kept = { λ s. filtered (E.keeps s.keep) };
 
     ghost charge = { λ _. 0 };
 

@@ -14,9 +14,9 @@ use std::marker::PhantomData;
 use surge_outside::{Counted, List, NoMemory, Record};
 use weighted::{Batch, Weight};
 
-/// The operator of a function from each record to several: the weight of a record that it makes is the sum of the weights
-/// of those that give it, each as often as it is given. It keeps nothing of what it was fed, nothing is ever due, and it
-/// charges nothing.
+/// The operator of a function from each record to several: the weight of a record that it makes is the sum of the
+/// weights of those that give it, each as often as it is given. It keeps nothing of what it was fed, nothing is ever
+/// due, and it charges nothing.
 #[derive(Drop)]
 pub struct FlatMap<E, A, B, T, U> {
     alloc: Global,
@@ -101,6 +101,8 @@ impl<E: Expand<A, B>, A: Record, B: Record, T: Time, U: Counted> Operator<T, U>
     ghost seal = { λ s. s.sealed };
 
     ghost apply = { λ s. expanded (E.gives s.expand) };
+
+    ghost kept = { λ s. expanded (E.gives s.expand) };
 
     ghost charge = { λ _. 0 };
 

@@ -16,8 +16,8 @@ use std::alloc::Global;
 use surge_outside::{Counted, List, NoMemory, Record};
 use weighted::Batch;
 
-/// Two operators, side by side: both are fed the same, and what each makes is a side of what is made. Its charge is the sum
-/// of both. What is due to either is due to it.
+/// Two operators, side by side: both are fed the same, and what each makes is a side of what is made. Its charge is the
+/// sum of both. What is due to either is due to it.
 #[derive(Drop)]
 pub struct Fork<A, B> {
     alloc: Global,
@@ -112,6 +112,8 @@ impl<T: Time, U: Counted, A: Operator<T, U>, B: Operator<T, U, Input = A::Input>
     ghost seal = { λ s. T.lub (A.seal s.first) (B.seal s.second) };
 
     ghost apply = { λ s xs. both_sides (A.apply s.first xs) (B.apply s.second xs) };
+
+    ghost kept = { λ s xs. both_sides (A.apply s.first xs) (B.apply s.second xs) };
 
     ghost charge = { λ s. A.charge s.first + B.charge s.second };
 

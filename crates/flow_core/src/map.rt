@@ -15,8 +15,8 @@ use std::marker::PhantomData;
 use surge_outside::{Counted, List, NoMemory, Record};
 use weighted::Batch;
 
-/// The operator of a function on each record: the weight of a record that it makes is the sum of the weights of those that
-/// are mapped to it. It keeps nothing of what it was fed, nothing is ever due, and it charges nothing.
+/// The operator of a function on each record: the weight of a record that it makes is the sum of the weights of those
+/// that are mapped to it. It keeps nothing of what it was fed, nothing is ever due, and it charges nothing.
 #[derive(Drop)]
 pub struct Map<E, A, B, T, U> {
     alloc: Global,
@@ -69,6 +69,8 @@ impl<E: Each<A, B>, A: Record, B: Record, T: Time, U: Counted> Operator<T, U>
     ghost seal = { λ s. s.sealed };
 
     ghost apply = { λ s. mapped (E.gives s.each) };
+
+    ghost kept = { λ s. mapped (E.gives s.each) };
 
     ghost charge = { λ _. 0 };
 

@@ -13,13 +13,13 @@ use weighted::Batch;
 /// steps may call.
 ///
 /// Its caller steps it at times of which none is at or below an earlier one. A time is due where the operator must be
-/// stepped once more, with or without a change, before what it made answers to what it was fed: each due time is a least
-/// upper bound of times of steps. The seal is a time below which no step comes any more, so that an operator may put
-/// together what it keeps of earlier times.
+/// stepped once more, with or without a change, before what it made answers to what it was fed: each due time is a
+/// least upper bound of times of steps. The seal is a time below which no step comes any more, so that an operator may
+/// put together what it keeps of earlier times.
 ///
-/// Contracts speak of the runs for which an operator stands: lists of steps, each with its time, what was fed and what was
-/// made. The operator need not store them; for each run for which it stood before a call, the contract names the run for
-/// which it stands afterwards.
+/// Contracts speak of the runs for which an operator stands: lists of steps, each with its time, what was fed and what
+/// was made. The operator need not store them; for each run for which it stood before a call, the contract names the
+/// run for which it stands afterwards.
 pub trait Operator<T: Time, U: Counted> {
     /// What it is fed.
     type Input: Record;
@@ -38,6 +38,12 @@ pub trait Operator<T: Time, U: Counted> {
 
     /// The function, from the sum of what was fed to the sum of what is made.
     ghost apply: { Self → List (Self.Input × ℕ) → List (Self.Output × ℕ) };
+
+    /// What tells the functions of its parts: its own function, where no part is to be seen.
+    ghost Kept: { Type 0 } = { List (Self.Input × ℕ) → List (Self.Output × ℕ) };
+
+    /// The functions of its parts, which a step and a seal leave as they are.
+    ghost kept: { Self → Self.Kept };
 
     /// What its steps were charged so far: a number for contracts alone, that bounds the calls of the updater.
     ghost charge: { Self → ℕ };
@@ -67,6 +73,7 @@ pub trait Operator<T: Time, U: Counted> {
         ensures live { OnOk result (spent self.new ≡ false) }
         ensures spent { OnErr result (spent self.new ≡ true) }
         ensures apply { apply self.new ≡ apply self.old }
+        ensures kept { Self.kept self.new ≡ Self.kept self.old }
         ensures charge { charge self.old ≤ charge self.new }
         ensures calls { U.calls updater.old ≤ U.calls updater.new }
         ensures cost { U.calls updater.new + charge self.old ≤ U.calls updater.old + charge self.new };
@@ -76,8 +83,8 @@ pub trait Operator<T: Time, U: Counted> {
         requires { spent self.now ≡ false }
         ensures { IsNextDue T.cmp result (due self.now) };
 
-    /// Promises that no step comes below `f` any more. The operator stands for the same runs, and answers for them at each
-    /// time at or above `f`.
+    /// Promises that no step comes below `f` any more. The operator stands for the same runs, and answers for them at
+    /// each time at or above `f`.
     ///
     /// The caller owes that the old seal is at or below `f`, that nothing is due, and that it isn't spent.
     ///
@@ -92,15 +99,16 @@ pub trait Operator<T: Time, U: Counted> {
         ensures live { OnOk result (spent self.new ≡ false) }
         ensures spent { OnErr result (spent self.new ≡ true) }
         ensures apply { apply self.new ≡ apply self.old }
+        ensures kept { Self.kept self.new ≡ Self.kept self.old }
         ensures charge { charge self.new ≡ charge self.old };
 
     /// Whether it answered an error. It takes no memory.
     fn is_spent(&self) -> bool
         ensures { result ≡ spent self.now };
 
-    /// What holds of each run for which it stands: at each time at or above the seal with nothing due at or below it, what
-    /// was made sums to the function of the sum of what was fed; each due time is a least upper bound of times of the run,
-    /// at or above the seal; no due time is at or below a time of the run.
+    /// What holds of each run for which it stands: at each time at or above the seal with nothing due at or below it,
+    /// what was made sums to the function of the sum of what was fed; each due time is a least upper bound of times of
+    /// the run, at or above the seal; no due time is at or below a time of the run.
     ghost answers: { (operator : Self) (run : Run T Self.Input Self.Output) → stands operator run → Answers T.leq T.lub (apply operator) (seal operator) (due operator) run };
 
     /// One collection has one function.

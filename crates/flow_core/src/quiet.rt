@@ -17,8 +17,8 @@ impl Counted for NoCalls {
     ghost calls = { λ _. 0 };
 }
 
-/// An operator that hands the operator inside it an updater of its own, in place of the one that it is handed. So it never
-/// calls the latter, and charges nothing. All else is as inside.
+/// An operator that hands the operator inside it an updater of its own, in place of the one that it is handed. So it
+/// never calls the latter, and charges nothing. All else is as inside.
 #[derive(Drop)]
 pub struct Quiet<O> {
     inner: O,
@@ -32,6 +32,7 @@ impl<O> Quiet<O> {
         requires { IsFresh O.stands O.due O.seal O.spent T.least inner }
         ensures fresh { let it = ⟦<Quiet<O> as Operator<T, U>>⟧ in IsFresh it.stands it.due it.seal it.spent T.least result }
         ensures apply { ⟦<Quiet<O> as Operator<T, U>>⟧.apply result ≡ O.apply inner }
+        ensures kept { ⟦<Quiet<O> as Operator<T, U>>⟧.kept result ≡ O.apply inner }
         ensures charge { ⟦<Quiet<O> as Operator<T, U>>⟧.charge result ≡ 0 }
         ensures inner { result.inner ≡ inner }
     {
@@ -58,6 +59,8 @@ impl<T: Time, U: Counted, O: Operator<T, NoCalls>> Operator<T, U> for Quiet<O> {
     ghost seal = { λ s. O.seal s.inner };
 
     ghost apply = { λ s. O.apply s.inner };
+
+    ghost kept = { λ s. O.apply s.inner };
 
     ghost charge = { λ _. 0 };
 

@@ -26,9 +26,9 @@ use Rattle.view_items.specs.Rounds.{round_of}
 use Rattle.view_items.specs.Laws.{IsOrder}
 use Rattle.flow_work.specs.Turns.{IsViewOf}
 
--- one step a round of each step of the whole, each charged the nodes that are evaluated there; a seal of the whole seals it at
--- round 0; and where what the whole was fed up to a time at which nothing is due is a view, each node was fed its input in each
--- round of the view's plain run, once, and no other number was fed anything
+-- one step a round of each step of the whole, each charged the nodes that are evaluated there; a seal of the whole
+-- seals it at round 0; and where what the whole was fed up to a time at which nothing is due is a view, each node was
+-- fed its input in each round of the view's plain run, once, and no other number was fed anything
 pub record InnerRun {T : Type 0} (leq : T → T → Bool) (lub : T → T → T) (pcmp : Pair T Round → Pair T Round → Ordering) (ncmp : NodeNo → NodeNo → Ordering) (icmp : NodeItem → NodeItem → Ordering) (answer : Answer) (p : Program) (graph : GraphData) (rounds : ℕ) (seal : T) (due : List T) (charge : ℕ) (run : Run T FlowInput (Round × (NodeNo × Val))) : Type 0 where
   pub inner : Run (Pair T Round) (NodeNo × NodeItem) (NodeNo × Val)
   pub times : times_of inner.steps ≡ all_rounds rounds (times_of run.steps)

@@ -42,8 +42,8 @@ abbrev pub MayBeView : GraphData → Option (List Arc) → Type 0
 MayBeView graph None = Unit {0}
 MayBeView graph (Some arcs) = IsViewOf graph arcs
 
--- where what was fed accumulates to one view at the seal and to another at the last step, and nothing is due at or below that
--- step, the charge since the seal is the work of the new view behind the old one
+-- where what was fed accumulates to one view at the seal and to another at the last step, and nothing is due at or
+-- below that step, the charge since the seal is the work of the new view behind the old one
 abbrev pub TurnIsWork : (T : Type 0) → (T → T → Bool) → (T → T → T) → Type 0
 TurnIsWork T leq lub = (pcmp : Pair T Round → Pair T Round → Ordering) → IsOrder pcmp → (ncmp : NodeNo → NodeNo → Ordering) → IsOrder ncmp → (acmp : Arc → Arc → Ordering) → IsOrder acmp → (icmp : NodeItem → NodeItem → Ordering) → IsItemOrder icmp
     → (answer : Answer) (p : Program) (graph : GraphData) (rounds : ℕ) (seal : T) (due : List T) (charge : ℕ) (run : Run T FlowInput (Round × (NodeNo × Val)))
@@ -52,3 +52,10 @@ TurnIsWork T leq lub = (pcmp : Pair T Round → Pair T Round → Ordering) → I
     → (new : List Arc) (old : Option (List Arc)) → IsViewOf graph new → MayBeView graph old
     → Alike (fed_to leq run.steps step.time) (view_fed graph new) → Alike (fed_to leq run.steps seal) (fed_of_view graph old)
     → charge ≡ run.base + work answer p graph new old rounds
+
+-- where a run turned, the charge since the seal is the work of the new view behind the old one
+pub record ChargesWork {T : Type 0} (leq : T → T → Bool) (answer : Answer) (p : Program) (graph : GraphData) (rounds : ℕ) (seal : T) (due : List T) (charge : ℕ) (run : Run T FlowInput (Round × (NodeNo × Val))) : Type 0 where
+  pub work_is : (front : List (Step T FlowInput (Round × (NodeNo × Val)))) (step : Step T FlowInput (Round × (NodeNo × Val))) → IsTurn leq seal run front step → NoneBelow leq step.time due
+      → (new : List Arc) (old : Option (List Arc)) → IsViewOf graph new → MayBeView graph old
+      → Alike (fed_to leq run.steps step.time) (view_fed graph new) → Alike (fed_to leq run.steps seal) (fed_of_view graph old)
+      → charge ≡ run.base + work answer p graph new old rounds

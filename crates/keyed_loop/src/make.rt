@@ -33,6 +33,7 @@ pub fn body_of<
     requires reduce { IsFresh R.stands R.due R.seal R.spent T.least reduce }
     ensures fresh { let it = ⟦<Chain<Quiet<I>, R> as Operator<T, U>>⟧ in IsFresh it.stands it.due it.seal it.spent T.least result }
     ensures apply { ⟦<Chain<Quiet<I>, R> as Operator<T, U>>⟧.apply result ≡ (λ held. R.apply reduce (I.apply items held)) }
+    ensures kept { ⟦<Chain<Quiet<I>, R> as Operator<T, U>>⟧.kept result ≡ (I.apply items, R.kept reduce) }
     ensures charge { ⟦<Chain<Quiet<I>, R> as Operator<T, U>>⟧.charge result ≡ R.charge reduce }
     ensures items { result.first.inner ≡ items }
     ensures reduce { result.second ≡ reduce }
@@ -59,6 +60,7 @@ where
     requires few { rounds ≤ 1_000_000 }
     ensures fresh { let it = ⟦<Chain<Quiet<P>, Iterate<B, T, U>> as Operator<T, U>>⟧ in IsFresh it.stands it.due it.seal it.spent T.least result }
     ensures apply { ⟦<Chain<Quiet<P>, Iterate<B, T, U>> as Operator<T, U>>⟧.apply result ≡ (λ fed. loop_apply (B.apply body) rounds (P.apply prep fed)) }
+    ensures kept { ⟦<Chain<Quiet<P>, Iterate<B, T, U>> as Operator<T, U>>⟧.kept result ≡ (P.apply prep, (B.kept body, rounds)) }
     ensures charge { ⟦<Chain<Quiet<P>, Iterate<B, T, U>> as Operator<T, U>>⟧.charge result ≡ B.charge body }
     ensures prep { result.first.inner ≡ prep }
     ensures body { result.second.body ≡ body }

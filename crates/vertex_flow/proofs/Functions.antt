@@ -22,3 +22,7 @@ prepared_by {I} ncmp acmp p begins begins' tails tails' whole w b t =
     w
     ∙ ap (λ (k : I → List InLoop). (λ fed. expanded k fed ++ arcs_in_loop ncmp acmp p (expanded tails fed))) b
     ∙ ap (λ (k : I → List (NodeNo × Arc)). (λ fed. expanded begins' fed ++ arcs_in_loop ncmp acmp p (expanded k fed))) t
+
+-- two parts, told in other words
+pub pair_is : {A B : Type 0} (whole : A × B) (first first' : A) (second second' : B) → whole ≡ (first, second) → first ≡ first' → second ≡ second' → whole ≡ (first', second')
+pair_is {A} {B} whole first first' second second' w f s = w ∙ ap (λ (k : A). (k, second)) f ∙ ap (λ (k : B). (first', k)) s

@@ -3,8 +3,11 @@
 ghost use Rattle.std.specs.Prelude.{◌≡◌, ◌≤◌, ◌%◌, ◌^◌};
 ghost use Rattle.flow_core.specs.Runs.{IsFresh};
 ghost use Rattle.vertex_lang.specs.Leaves.{IsChecked};
+ghost use Rattle.reduce_theory.specs.ByKey.{reduce_apply};
+ghost use Rattle.vertex_items.specs.Given.{node_gives};
+ghost use Rattle.view_items.specs.Collections.{items};
 ghost use Rattle.view_items.specs.Rounds.{round_of};
-ghost use Rattle.flow_work.specs.Values.{flow_apply, start_apply};
+ghost use Rattle.flow_work.specs.Values.{flow_apply, flow_parts, start_apply};
 
 use crate::items::{Items, items_of};
 use crate::prep::{FlowPrep, StartPrep, flow_prep, start_prep};
@@ -48,6 +51,7 @@ fn round_of<'g, T: Time, U: Updater>(
     requires { IsChecked program.now graph.now }
     ensures fresh { let it = ⟦<OneRound<'g, T, U> as Operator<T, U>>⟧ in IsFresh it.stands it.due it.seal it.spent T.least result }
     ensures apply { ⟦<OneRound<'g, T, U> as Operator<T, U>>⟧.apply result ≡ round_of ⟦<NodeNo as Ord>⟧.cmp ⟦<NodeItem as Ord>⟧.cmp U.answer program.now graph.now }
+    ensures kept { ⟦<OneRound<'g, T, U> as Operator<T, U>>⟧.kept result ≡ (items ⟦<NodeNo as Ord>⟧.cmp program.now graph.now, reduce_apply ⟦<NodeNo as Ord>⟧.cmp ⟦<NodeItem as Ord>⟧.cmp (node_gives U.answer program.now graph.now)) }
     ensures charge { ⟦<OneRound<'g, T, U> as Operator<T, U>>⟧.charge result ≡ 0 }
 {
     let items: Items<'g, T> = items_of(alloc, graph, program);
@@ -69,6 +73,7 @@ pub fn vertex_flow<'g, T: Time, U: Updater>(
     requires few { rounds ≤ 1_000_000 }
     ensures fresh { let it = ⟦<VertexFlow<'g, T, U> as Operator<T, U>>⟧ in IsFresh it.stands it.due it.seal it.spent T.least result }
     ensures apply { ⟦<VertexFlow<'g, T, U> as Operator<T, U>>⟧.apply result ≡ flow_apply ⟦<NodeNo as Ord>⟧.cmp ⟦<Arc as Ord>⟧.cmp ⟦<NodeItem as Ord>⟧.cmp U.answer program.now graph.now rounds }
+    ensures kept { flow_parts ⟦<NodeNo as Ord>⟧.cmp ⟦<Arc as Ord>⟧.cmp ⟦<NodeItem as Ord>⟧.cmp U.answer program.now graph.now rounds ≡ ⟦<VertexFlow<'g, T, U> as Operator<T, U>>⟧.kept result }
     ensures charge { ⟦<VertexFlow<'g, T, U> as Operator<T, U>>⟧.charge result ≡ 0 }
 {
     let prep: FlowPrep<'g, T> = flow_prep(alloc, graph, program);

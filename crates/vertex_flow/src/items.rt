@@ -64,6 +64,8 @@ impl<'g, T: Time> Operator<T, NoCalls> for Items<'g, T> {
 
     ghost apply = { λ s. ⟦<Routed<'g, T> as Operator<T, NoCalls>>⟧.apply s.routed };
 
+    ghost kept = { λ s. ⟦<Routed<'g, T> as Operator<T, NoCalls>>⟧.apply s.routed };
+
     ghost charge = { λ s. ⟦<Routed<'g, T> as Operator<T, NoCalls>>⟧.charge s.routed };
 
     ghost spent = { λ s. ⟦<Routed<'g, T> as Operator<T, NoCalls>>⟧.spent s.routed };

@@ -28,8 +28,8 @@ pub record IsOrder {A : Type 0} (cmp : A → A → Ordering) : Type 0 where
   pub total : IsTotalOrder cmp
   pub same : (x y : A) → cmp x y ≡ Equal → x ≡ y
 
--- where what is in the loop is a view, with the values of its nodes in a round, the items of a node are its input in that
--- round, each once, and another number has none
+-- where what is in the loop is a view, with the values of its nodes in a round, the items of a node are its input in
+-- that round, each once, and another number has none
 abbrev pub ItemsAreInputs : Type 0
 ItemsAreInputs = (ncmp : NodeNo → NodeNo → Ordering) → IsOrder ncmp
     → (answer : Answer) (p : Program) (graph : GraphData) (arcs : List Arc) (r : ℕ) → All (IsArc graph) arcs → length arcs < 2 ^ 32

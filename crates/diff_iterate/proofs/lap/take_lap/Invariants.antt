@@ -12,6 +12,7 @@ invariant-loop-round g l = record {
   seal : g.B.Operator.seal l.body ≡ g.B.Operator.seal l.fn.body;
   live : g.B.Operator.spent l.body ≡ false;
   apply : g.B.Operator.apply l.body ≡ g.B.Operator.apply l.fn.body;
+  kept : g.B.Operator.kept l.body ≡ g.B.Operator.kept l.fn.body;
   charge : g.B.Operator.charge l.fn.body ≤ g.B.Operator.charge l.body;
   calls : g.U.Counted.calls l.fn.updater ≤ g.U.Counted.calls l.updater;
   cost : g.U.Counted.calls l.updater + g.B.Operator.charge l.fn.body ≤ g.U.Counted.calls l.fn.updater + g.B.Operator.charge l.body;

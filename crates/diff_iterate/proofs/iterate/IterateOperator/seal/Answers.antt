@@ -30,3 +30,6 @@ returns-clause-due g c = OnOk-imply c.seal.result _ _ (λ none. ap (map (λ d. d
 
 pub returns-clause-apply : goal.returns-clause-apply
 returns-clause-apply g c = ap (λ f. loop_apply f c.args.self.now.rounds) c.seal.ensures.apply
+
+pub returns-clause-kept : goal.returns-clause-kept
+returns-clause-kept g c = ap (λ k. (k, c.args.self.now.rounds)) c.seal.ensures.kept

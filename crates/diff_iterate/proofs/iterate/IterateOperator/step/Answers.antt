@@ -41,3 +41,6 @@ returns-clause-spent g c = spent_now c.take_lap-made.result c.is_err-self.result
 
 pub returns-clause-apply : goal.returns-clause-apply
 returns-clause-apply g c = ap (λ f. loop_apply f c.args.self.now.rounds) c.take_lap-made.ensures.apply
+
+pub returns-clause-kept : goal.returns-clause-kept
+returns-clause-kept g c = ap (λ k. (k, c.args.self.now.rounds)) c.take_lap-made.ensures.kept
