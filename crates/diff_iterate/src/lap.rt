@@ -1,6 +1,6 @@
 //! One step of a loop: its body, round by round.
 
-ghost use Rattle.std.specs.Prelude.{◌≡◌, ℕ, ◌+◌, ◌<◌, ◌≤◌, ◌⊎◌, false, IsTrue, List, [], IfOk, OnOk};
+ghost use Rattle.std.specs.Prelude.{◌≡◌, ℕ, ◌+◌, ◌-◌, ◌<◌, ◌≤◌, ◌⊎◌, false, IsTrue, List, [], IfOk, OnOk};
 ghost use Rattle.weighted.specs.Alike.{Alike};
 ghost use Rattle.flow_core.specs.Runs.{Run, Every, Member, times_of};
 ghost use Rattle.loop_theory.specs.Loops.{NoOuterAbove};
@@ -39,7 +39,7 @@ where
     requires seal { IsTrue (T.leq (B.seal body.old).outer t) }
     requires level { (B.seal body.old).inner.0 ≡ 0 }
     requires live { B.spent body.old ≡ false }
-    ensures lap { IfOk result (λ change. Underway T.leq (B.stands body.old) (B.stands body.new) t delta.now 1 change entries.new.items) }
+    ensures lap { IfOk result (λ change. Underway T.leq (B.stands body.old) (B.stands body.new) t delta.now 1 change entries.new.items (B.charge body.new - B.charge body.old)) }
     ensures due { OnOk result (Every (λ d. Member d (B.due body.old) ⊎ IsTrue (T.leq t d.outer)) (B.due body.new)) }
     ensures seal { OnOk result (B.seal body.new ≡ B.seal body.old) }
     ensures level { B.spent body.new ≡ false → (B.seal body.new).inner.0 ≡ 0 }
@@ -86,7 +86,7 @@ where
     requires seal { IsTrue (T.leq (B.seal body.old).outer t) }
     requires level { (B.seal body.old).inner.0 ≡ 0 }
     requires live { B.spent body.old ≡ false }
-    ensures lap { IfOk result (λ made. (change : List (X × ℕ)) × Underway T.leq (B.stands body.old) (B.stands body.new) t delta.now rounds change made) }
+    ensures lap { IfOk result (λ made. (change : List (X × ℕ)) × Underway T.leq (B.stands body.old) (B.stands body.new) t delta.now rounds change made (B.charge body.new - B.charge body.old)) }
     ensures due { OnOk result (Every (λ d. Member d (B.due body.old) ⊎ IsTrue (T.leq t d.outer)) (B.due body.new)) }
     ensures seal { OnOk result (B.seal body.new ≡ B.seal body.old) }
     ensures level { B.spent body.new ≡ false → (B.seal body.new).inner.0 ≡ 0 }

@@ -21,6 +21,7 @@ module _ {T K A B O : Type 0} {leq : T → T → Bool} {lub : T → T → T} (la
   pub join_fresh : (seal : T) → StandsByProducts leq lub (joined_sides kcmp gives) seal [] [] [] empty_run
   join_fresh seal = record {
     base = refl;
+    free = tt;
     left_sums = λ u over. Alike-refl [];
     right_sums = λ u over. Alike-refl [];
     products = λ u over. Alike-refl [];
@@ -90,13 +91,14 @@ module _ {T K A B O : Type 0} {leq : T → T → Bool} {lub : T → T → T} (la
   nothing_more true xs = append-nil xs
   nothing_more false xs = append-nil xs
 
-  pub join_idle : (seal : T) (left : List (((K × A) × T) × ℕ)) (right : List (((K × B) × T) × ℕ)) (kept : List ((T × O) × ℕ)) (run : Run T (Side (K × A) (K × B)) O) (t : T) → StandsByProducts leq lub (joined_sides kcmp gives) seal left right kept run → NoneBelow leq t (due_times kept) → StandsByProducts leq lub (joined_sides kcmp gives) seal left right kept (continued run t [] [])
+  pub join_idle : (seal : T) (left : List (((K × A) × T) × ℕ)) (right : List (((K × B) × T) × ℕ)) (kept : List ((T × O) × ℕ)) (run : Run T (Side (K × A) (K × B)) O) (t : T) → StandsByProducts leq lub (joined_sides kcmp gives) seal left right kept run → NoneBelow leq t (due_times kept) → StandsByProducts leq lub (joined_sides kcmp gives) seal left right kept (continued run t [] [] 0)
   join_idle seal left right kept run t h below =
-      let times : times_of (continued {I = Side (K × A) (K × B)} {O = O} run t [] []).steps ≡ times_of run.steps ++ t ∷ [] = times_of-append run.steps (record { time = t; fed = []; made = [] } ∷ []) in
-      let fed : (u : T) → fed_to leq (continued {I = Side (K × A) (K × B)} {O = O} run t [] []).steps u ≡ fed_to leq run.steps u = λ u. fed_to_last leq run.steps (record { time = t; fed = []; made = [] }) u ∙ nothing_more (leq t u) (fed_to leq run.steps u) in
-      let made : (u : T) → made_to leq (continued {I = Side (K × A) (K × B)} {O = O} run t [] []).steps u ≡ made_to leq run.steps u = λ u. made_to_last leq run.steps (record { time = t; fed = []; made = [] }) u ∙ nothing_more (leq t u) (made_to leq run.steps u) in
+      let times : times_of (continued {I = Side (K × A) (K × B)} {O = O} run t [] [] 0).steps ≡ times_of run.steps ++ t ∷ [] = times_of-append run.steps (record { time = t; fed = []; made = []; charge = 0 } ∷ []) in
+      let fed : (u : T) → fed_to leq (continued {I = Side (K × A) (K × B)} {O = O} run t [] [] 0).steps u ≡ fed_to leq run.steps u = λ u. fed_to_last leq run.steps (record { time = t; fed = []; made = []; charge = 0 }) u ∙ nothing_more (leq t u) (fed_to leq run.steps u) in
+      let made : (u : T) → made_to leq (continued {I = Side (K × A) (K × B)} {O = O} run t [] [] 0).steps u ≡ made_to leq run.steps u = λ u. made_to_last leq run.steps (record { time = t; fed = []; made = []; charge = 0 }) u ∙ nothing_more (leq t u) (made_to leq run.steps u) in
       record {
         base = h.base;
+        free = Every-append (λ s. s.charge ≡ 0) run.steps (record { time = t; fed = []; made = []; charge = 0 } ∷ []) h.free (refl, tt);
         left_sums = λ u over. rw (fed u) (h.left_sums u over);
         right_sums = λ u over. rw (fed u) (h.right_sums u over);
         products = λ u over. rw (fed u, made u) (h.products u over);
@@ -117,6 +119,7 @@ module _ {T K A B O : Type 0} {leq : T → T → Bool} {lub : T → T → T} (la
   pub join_sealed : (lcmp : (K × A) × T → (K × A) × T → Ordering) (rcmp : (K × B) × T → (K × B) × T → Ordering) (seal f : T) (left sealed_left : List (((K × A) × T) × ℕ)) (right sealed_right : List (((K × B) × T) × ℕ)) (kept : List ((T × O) × ℕ)) (run : Run T (Side (K × A) (K × B)) O) → IsTrue (leq seal f) → due_times kept ≡ [] → sealed_left ≡ normal lcmp (mapped (later lub f) left) → ((u : T) → IsTrue (leq f u) → Alike (accumulated leq u sealed_left) (accumulated leq u left)) → sealed_right ≡ normal rcmp (mapped (later lub f) right) → ((u : T) → IsTrue (leq f u) → Alike (accumulated leq u sealed_right) (accumulated leq u right)) → StandsByProducts leq lub (joined_sides kcmp gives) seal left right kept run → StandsByProducts leq lub (joined_sides kcmp gives) f sealed_left sealed_right kept (sealed run 0)
   join_sealed lcmp rcmp seal f left sealed_left right sealed_right kept run under none lis lsums ris rsums h = record {
     base = refl;
+    free = h.free;
     left_sums = λ u over. Alike-trans (lsums u over) (h.left_sums u (lattice.transitive seal f u under over));
     right_sums = λ u over. Alike-trans (rsums u over) (h.right_sums u (lattice.transitive seal f u under over));
     products = λ u over. h.products u (lattice.transitive seal f u under over);

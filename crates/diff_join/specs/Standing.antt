@@ -15,6 +15,7 @@ IsReadAs {T} lub seal times s = (r : T) × Member r times × (s ≡ lub r seal)
 pub record StandsByProducts {T K A B O : Type 0} (leq : T → T → Bool) (lub : T → T → T) (apply : List (Side (K × A) (K × B) × ℕ) → List (O × ℕ)) (seal : T) (left : List (((K × A) × T) × ℕ)) (right : List (((K × B) × T) × ℕ)) (kept : List ((T × O) × ℕ)) (run : Run T (Side (K × A) (K × B)) O) : Type 0 where
   -- nothing was ever charged
   pub base : run.base ≡ 0
+  pub free : Every (λ s. s.charge ≡ 0) run.steps
   -- the traces accumulate to the two sides of what was fed
   pub left_sums : (u : T) → IsTrue (leq seal u) → Alike (accumulated leq u left) (lefts (fed_to leq run.steps u))
   pub right_sums : (u : T) → IsTrue (leq seal u) → Alike (accumulated leq u right) (rights (fed_to leq run.steps u))

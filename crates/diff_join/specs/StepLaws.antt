@@ -126,14 +126,15 @@ module _ {T K A B O : Type 0} {leq : T → T → Bool} {lub : T → T → T} (la
           | inr n ↦ w.1 (lattice.antisymmetric d t k n.2)
         ]))
 
-    pub join_continued : NoneAbove leq t (times_of run.steps) → Every (λ d. IsTrue (leq d t) → d ≡ t) (due_times old) → StandsByProducts leq lub (joined_sides kcmp gives) seal new_left new_right new (continued run t fed made)
+    pub join_continued : NoneAbove leq t (times_of run.steps) → Every (λ d. IsTrue (leq d t) → d ≡ t) (due_times old) → StandsByProducts leq lub (joined_sides kcmp gives) seal new_left new_right new (continued run t fed made 0)
     join_continued above due =
-        let times : times_of (continued run t fed made).steps ≡ times_of run.steps ++ t ∷ [] = times_of-append run.steps (record { time = t; fed = fed; made = made } ∷ []) in
+        let times : times_of (continued run t fed made 0).steps ≡ times_of run.steps ++ t ∷ [] = times_of-append run.steps (record { time = t; fed = fed; made = made; charge = 0 } ∷ []) in
         record {
           base = h.base;
-          left_sums = λ u up. rw (fed_to_last leq run.steps (record { time = t; fed = fed; made = made }) u) (Alike-trans (linserted.sums u) (lefts_more kcmp gives (leq t u) (fed_to leq run.steps u) fed (accumulated leq u left) dl (h.left_sums u up) dl_is));
-          right_sums = λ u up. rw (fed_to_last leq run.steps (record { time = t; fed = fed; made = made }) u) (Alike-trans (rinserted.sums u) (rights_more kcmp gives (leq t u) (fed_to leq run.steps u) fed (accumulated leq u right) dr (h.right_sums u up) dr_is));
-          products = λ u up. rw (made_to_last leq run.steps (record { time = t; fed = fed; made = made }) u, fed_to_last leq run.steps (record { time = t; fed = fed; made = made }) u) (sums_to u up);
+          free = Every-append (λ s. s.charge ≡ 0) run.steps (record { time = t; fed = fed; made = made; charge = 0 } ∷ []) h.free (refl, tt);
+          left_sums = λ u up. rw (fed_to_last leq run.steps (record { time = t; fed = fed; made = made; charge = 0 }) u) (Alike-trans (linserted.sums u) (lefts_more kcmp gives (leq t u) (fed_to leq run.steps u) fed (accumulated leq u left) dl (h.left_sums u up) dl_is));
+          right_sums = λ u up. rw (fed_to_last leq run.steps (record { time = t; fed = fed; made = made; charge = 0 }) u) (Alike-trans (rinserted.sums u) (rights_more kcmp gives (leq t u) (fed_to leq run.steps u) fed (accumulated leq u right) dr (h.right_sums u up) dr_is));
+          products = λ u up. rw (made_to_last leq run.steps (record { time = t; fed = fed; made = made; charge = 0 }) u, fed_to_last leq run.steps (record { time = t; fed = fed; made = made; charge = 0 }) u) (sums_to u up);
           left_times = rw times (inserted_times lcmp seal t (times_of run.steps) dl left new_left over linserted h.left_times);
           right_times = rw times (inserted_times rcmp seal t (times_of run.steps) dr right new_right over rinserted h.right_times);
           lubs = rw times lubs_now;

@@ -70,7 +70,7 @@ impl<K: Record, A: Record, B: Record, F: Pairing<K, A, B>, T: Time, U: Counted> 
         requires run { (run : Run T (Side (K × A) (K × B)) F.Output) × StandsByProducts T.leq T.lub (joined_sides K.cmp (F.gives self.old.pairing)) self.old.sealed self.old.left.items self.old.right.items self.old.kept run }
         requires due { Every (λ d. IsTrue (T.leq d t) → d ≡ t) (due_times self.old.kept) }
         requires seal { IsTrue (T.leq self.old.sealed t) }
-        ensures runs { IfOk result (λ made. (run : Run T (Side (K × A) (K × B)) F.Output) → StandsByProducts T.leq T.lub (joined_sides K.cmp (F.gives self.old.pairing)) self.old.sealed self.old.left.items self.old.right.items self.old.kept run → NoneAbove T.leq t (times_of run.steps) → StandsByProducts T.leq T.lub (joined_sides K.cmp (F.gives self.old.pairing)) self.old.sealed self.new.left.items self.new.right.items self.new.kept (continued run t delta.now made)) }
+        ensures runs { IfOk result (λ made. (run : Run T (Side (K × A) (K × B)) F.Output) → StandsByProducts T.leq T.lub (joined_sides K.cmp (F.gives self.old.pairing)) self.old.sealed self.old.left.items self.old.right.items self.old.kept run → NoneAbove T.leq t (times_of run.steps) → StandsByProducts T.leq T.lub (joined_sides K.cmp (F.gives self.old.pairing)) self.old.sealed self.new.left.items self.new.right.items self.new.kept (continued run t delta.now made 0)) }
         ensures due { OnOk result (Every (λ d. Member d (due_times self.old.kept) ⊎ IsTrue (T.leq t d)) (due_times self.new.kept)) }
         ensures seal { self.new.sealed ≡ self.old.sealed }
         ensures pairing { self.new.pairing ≡ self.old.pairing }

@@ -1,5 +1,5 @@
 -- A step of a reduce, a step that is left out, and a seal: the runs for which it stands afterwards.
-use Rattle.std.specs.Prelude.{◌≡◌, ℕ, Bool, true, false, IsTrue, List, [], ◌∷◌, ◌++◌, if◌then◌else◌, refl}
+use Rattle.std.specs.Prelude.{◌≡◌, ℕ, ◌-◌, Bool, true, false, IsTrue, List, [], ◌∷◌, ◌++◌, if◌then◌else◌, refl}
 use Rattle.std.specs.declared.cmp.Ordering.{Ordering}
 use Rattle.std.specs.declared.cmp.Ordering.TheVariants.{Equal}
 use Rattle.std.specs.Cmp.{IsTotalOrder}
@@ -51,7 +51,7 @@ module _ {K V O T : Type 0} (leq : T → T → Bool) (lub : T → T → T) (latt
 
   module _ (held new : Held K V O T) (run : Run T (K × V) (K × O)) (h : Stands leq lub tcmp kcmp vcmp gives held run) (t : T) (delta : List ((K × V) × ℕ)) (made : List ((K × O) × ℕ)) (ks : List K) (c : Stepped leq lub tcmp kcmp vcmp ocmp gives held new t delta made ks) (later : NoneAbove leq t (times_of run.steps)) (over_seal : IsTrue (leq held.seal t)) (ready : Every (λ d. IsTrue (leq d t) → d ≡ t) (due_times held.due)) where
     abbrev last : Step T (K × V) (K × O)
-    last = record { time = t; fed = delta; made = made }
+    last = record { time = t; fed = delta; made = made; charge = new.charge - held.charge }
 
     -- the traces
     at_seal : lub t held.seal ≡ t
@@ -92,7 +92,7 @@ module _ {K V O T : Type 0} (leq : T → T → Bool) (lub : T → T → T) (latt
       due_only = λ k d m. c.due_only d k m;
     }
 
-    pub step_stands : IsBatch (in_turn kcmp vcmp) delta → Stands leq lub tcmp kcmp vcmp gives new (continued run t delta made)
+    pub step_stands : IsBatch (in_turn kcmp vcmp) delta → Stands leq lub tcmp kcmp vcmp gives new (continued run t delta made (new.charge - held.charge))
     step_stands batch = record {
       batches = Every-append (λ s. IsBatch (in_turn kcmp vcmp) s.fed) run.steps (last ∷ []) h.batches (batch, tt);
       input = rw c.seal input_is;
@@ -102,11 +102,11 @@ module _ {K V O T : Type 0} (leq : T → T → Bool) (lub : T → T → T) (latt
 
   -- ---- a step that is fed nothing where nothing is due
 
-  pub idle_stands : (held : Held K V O T) (run : Run T (K × V) (K × O)) (t : T) → Stands leq lub tcmp kcmp vcmp gives held run → NoneAbove leq t (times_of run.steps) → IsTrue (leq held.seal t) → NoneBelow leq t (due_times held.due) → Stands leq lub tcmp kcmp vcmp gives held (continued run t [] [])
+  pub idle_stands : (held : Held K V O T) (run : Run T (K × V) (K × O)) (t : T) → Stands leq lub tcmp kcmp vcmp gives held run → NoneAbove leq t (times_of run.steps) → IsTrue (leq held.seal t) → NoneBelow leq t (due_times held.due) → Stands leq lub tcmp kcmp vcmp gives held (continued run t [] [] 0)
   idle_stands held run t h later over_seal none = record {
-    batches = Every-append (λ s. IsBatch (in_turn kcmp vcmp) s.fed) run.steps (record { time = t; fed = []; made = [] } ∷ []) h.batches (record { rising = tt; weighty = tt }, tt);
-    input = Alike-trans h.input (Alike-is (sym (ap (timed lub held.seal) (fed_of-append run.steps (record { time = t; fed = []; made = [] } ∷ [])) ∙ timed_last leq lub lattice held.seal t (fed_of run.steps) [] at_seal ∙ append-nil (timed lub held.seal (fed_of run.steps)))));
-    output = Alike-trans h.output (Alike-is (sym (ap (timed lub held.seal) (made_of-append run.steps (record { time = t; fed = []; made = [] } ∷ [])) ∙ timed_last leq lub lattice held.seal t (made_of run.steps) [] at_seal ∙ append-nil (timed lub held.seal (made_of run.steps)))));
+    batches = Every-append (λ s. IsBatch (in_turn kcmp vcmp) s.fed) run.steps (record { time = t; fed = []; made = []; charge = 0 } ∷ []) h.batches (record { rising = tt; weighty = tt }, tt);
+    input = Alike-trans h.input (Alike-is (sym (ap (timed lub held.seal) (fed_of-append run.steps (record { time = t; fed = []; made = []; charge = 0 } ∷ [])) ∙ timed_last leq lub lattice held.seal t (fed_of run.steps) [] at_seal ∙ append-nil (timed lub held.seal (fed_of run.steps)))));
+    output = Alike-trans h.output (Alike-is (sym (ap (timed lub held.seal) (made_of-append run.steps (record { time = t; fed = []; made = []; charge = 0 } ∷ [])) ∙ timed_last leq lub lattice held.seal t (made_of run.steps) [] at_seal ∙ append-nil (timed lub held.seal (made_of run.steps)))));
     keeps = idle_keeps leq lub lattice tcmp tsame titself kcmp ksame kitself vcmp vtotal vsame gives nothing (store held) run t h.keeps later over_seal (due_each held.due (λ d. leq d t ≡ false) none);
   } where
     at_seal : lub t held.seal ≡ t

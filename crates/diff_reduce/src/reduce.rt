@@ -5,7 +5,7 @@ ghost use Rattle.std.specs.Cmp.{tied_itself};
 ghost use Rattle.weighted.specs.Batches.{IsBatch};
 ghost use Rattle.trace_store.specs.Traces.{in_turn};
 ghost use Rattle.flow_core.specs.Runs.{IsFresh, Run, Every};
-ghost use Rattle.reduce_theory.specs.Evaluated.{charged};
+ghost use Rattle.reduce_theory.specs.Evaluated.{EachCharged, charged};
 ghost use Rattle.reduce_theory.specs.ByKey.{reduce_apply, reduce_respects};
 ghost use Rattle.reduce_theory.specs.Kept.{old_steps, new_steps};
 ghost use Rattle.diff_reduce.specs.Stands.{Stands, due_times};
@@ -76,11 +76,12 @@ impl<G: KeyLogic<U>, T: Time, U: Counted> Reduce<G, T, U> {
     }
 
     /// How many times the logic was called so far, modulo 2^64: the low bits of the charge. Of each run for which the
-    /// reduce stands the charge is that at the seal and the number of keys that are evaluated at each step since, and
-    /// each step was fed a batch in normal form. It takes no memory.
+    /// reduce stands the charge is that at the seal and the number of keys that are evaluated at each step since, each
+    /// of these steps was charged that number, and each step was fed a batch in normal form. It takes no memory.
     pub fn evaluations(&self) -> u64
         ensures charge { result ≡ ⟦<Reduce<G, T, U> as Operator<T, U>>⟧.charge self.now % 2 ^ 64 }
         ensures counted { let it = ⟦<Reduce<G, T, U> as Operator<T, U>>⟧ in (run : Run T (G.Key × G.Value) (G.Key × G.Output)) → it.stands self.now run → it.charge self.now ≡ run.base + charged T.leq T.lub T.cmp G.Key.cmp G.Value.cmp (it.seal self.now) (old_steps run) [] (new_steps run) }
+        ensures each { let it = ⟦<Reduce<G, T, U> as Operator<T, U>>⟧ in (run : Run T (G.Key × G.Value) (G.Key × G.Output)) → it.stands self.now run → EachCharged T.leq T.lub T.cmp G.Key.cmp G.Value.cmp (it.seal self.now) (old_steps run) [] (new_steps run) }
         ensures fed { let it = ⟦<Reduce<G, T, U> as Operator<T, U>>⟧ in (run : Run T (G.Key × G.Value) (G.Key × G.Output)) → it.stands self.now run → Every (λ s. IsBatch (in_turn G.Key.cmp G.Value.cmp) s.fed) run.steps }
     {
         self.count.low()

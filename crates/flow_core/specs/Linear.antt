@@ -1,5 +1,5 @@
 -- Operators whose every step makes the function of what it is fed.
-use Rattle.std.specs.Prelude.{◌≡◌, ℕ, ◌≤◌, Bool, true, false, List, [], ◌∷◌, ◌++◌, if◌then◌else◌}
+use Rattle.std.specs.Prelude.{◌≡◌, ℕ, ◌≤◌, Bool, true, false, List, [], ◌∷◌, ◌++◌, if◌then◌else◌, refl}
 use Rattle.std.proofs.Common.{arith}
 use Rattle.weighted.specs.Alike.{Alike, Alike-refl, Alike-sym, Alike-trans, Alike-append}
 use Rattle.flow_core.specs.Runs.{Step, Run, Every, fed_to, made_to, times_of, Answers, continued}
@@ -11,9 +11,14 @@ pub record IsLinear {I O : Type 0} (f : List (I × ℕ) → List (O × ℕ)) : T
   pub sum : (xs ys : List (I × ℕ)) → Alike (f (xs ++ ys)) (f xs ++ f ys)
   pub respects : (xs ys : List (I × ℕ)) → Alike xs ys → Alike (f xs) (f ys)
 
--- each step made the function of what it was fed, and nothing was ever charged
+-- a step made the function of what it was fed, and was charged nothing
+pub record IsStepOf {T I O : Type 0} (f : List (I × ℕ) → List (O × ℕ)) (step : Step T I O) : Type 0 where
+  pub made : Alike step.made (f step.fed)
+  pub free : step.charge ≡ 0
+
+-- so did each step, and nothing was ever charged
 abbrev pub StandsByStep : {T I O : Type 0} → (List (I × ℕ) → List (O × ℕ)) → Run T I O → Type 0
-StandsByStep f run = Every (λ step. Alike step.made (f step.fed)) run.steps × (run.base ≡ 0)
+StandsByStep f run = Every (IsStepOf f) run.steps × (run.base ≡ 0)
 
 pub paid_nothing : (base : ℕ) → base ≡ 0 → base ≤ 0
 paid_nothing base h = omega arith
@@ -23,11 +28,11 @@ module _ {I O : Type 0} (f : List (I × ℕ) → List (O × ℕ)) (linear : IsLi
   part_same true fed made h = h
   part_same false fed made h = rw linear.nothing (Alike-refl [])
 
-  closed_steps : {T : Type 0} (leq : T → T → Bool) (steps : List (Step T I O)) (t : T) → Every (λ s. Alike s.made (f s.fed)) steps → Alike (made_to leq steps t) (f (fed_to leq steps t))
+  closed_steps : {T : Type 0} (leq : T → T → Bool) (steps : List (Step T I O)) (t : T) → Every (IsStepOf f) steps → Alike (made_to leq steps t) (f (fed_to leq steps t))
   closed_steps leq [] t h = rw linear.nothing (Alike-refl [])
   closed_steps leq (s ∷ ss) t h =
       let sum : Alike (f ((if leq s.time t then s.fed else []) ++ fed_to leq ss t)) (f (if leq s.time t then s.fed else []) ++ f (fed_to leq ss t)) = linear.sum (if leq s.time t then s.fed else []) (fed_to leq ss t) in
-      Alike-trans (Alike-append (part_same (leq s.time t) s.fed s.made h.0) (closed_steps leq ss t h.1)) (Alike-sym sum)
+      Alike-trans (Alike-append (part_same (leq s.time t) s.fed s.made h.0.made) (closed_steps leq ss t h.1)) (Alike-sym sum)
 
   pub linear_answers : {T : Type 0} (leq : T → T → Bool) (lub : T → T → T) (seal : T) (run : Run T I O) → StandsByStep f run → Answers leq lub f seal [] run
   linear_answers leq lub seal run h = record {
@@ -36,8 +41,8 @@ module _ {I O : Type 0} (f : List (I × ℕ) → List (O × ℕ)) (linear : IsLi
     ahead = Every-all (λ _. Unit {0}) (times_of run.steps) (λ _. tt);
   }
 
-  pub linear_continued : {T : Type 0} (run : Run T I O) (t : T) (fed : List (I × ℕ)) (made : List (O × ℕ)) → Alike made (f fed) → StandsByStep f run → StandsByStep f (continued run t fed made)
-  linear_continued run t fed made e h = (Every-append (λ s. Alike s.made (f s.fed)) run.steps (record { time = t; fed = fed; made = made } ∷ []) h.0 (e, tt), h.1)
+  pub linear_continued : {T : Type 0} (run : Run T I O) (t : T) (fed : List (I × ℕ)) (made : List (O × ℕ)) → Alike made (f fed) → StandsByStep f run → StandsByStep f (continued run t fed made 0)
+  linear_continued run t fed made e h = (Every-append (IsStepOf f) run.steps (record { time = t; fed = fed; made = made; charge = 0 } ∷ []) h.0 (record { made = e; free = refl }, tt), h.1)
 
-  pub linear_idle : {T : Type 0} (run : Run T I O) (t : T) → StandsByStep f run → StandsByStep f (continued run t [] [])
+  pub linear_idle : {T : Type 0} (run : Run T I O) (t : T) → StandsByStep f run → StandsByStep f (continued run t [] [] 0)
   linear_idle run t h = linear_continued run t [] [] (rw linear.nothing (Alike-refl [])) h

@@ -1,5 +1,5 @@
 -- Laws of operators that are made of two others.
-use Rattle.std.specs.Prelude.{◌≡◌, ℕ, ◌+◌, ◌≤◌, Bool, false, IsTrue, List, [], ◌∷◌, ◌++◌, length, map, refl}
+use Rattle.std.specs.Prelude.{◌≡◌, ℕ, ◌+◌, ◌-◌, ◌≤◌, Bool, false, IsTrue, List, [], ◌∷◌, ◌++◌, length, map, refl}
 use Rattle.std.proofs.Common.{arith}
 use Rattle.std.proofs.lemmas.List.{map-append}
 use Rattle.lattice_time.specs.Lattice.{IsLattice}
@@ -18,6 +18,10 @@ above_first {T} {leq} {lub} l s u t h = l.transitive s (lub s u) t (l.left s u) 
 
 pub above_second : {T : Type 0} {leq : T → T → Bool} {lub : T → T → T} → IsLattice leq lub → (s u t : T) → IsTrue (leq (lub s u) t) → IsTrue (leq u t)
 above_second {T} {leq} {lub} l s u t h = l.transitive u (lub s u) t (l.right s u) h
+
+-- what both charges rise by is what their sum rises by
+pub both_rise : (a b c d : ℕ) → a ≤ b → c ≤ d → (b - a) + (d - c) ≡ (b + d) - (a + c)
+both_rise a b c d h k = omega arith
 
 -- a part takes its steps at the times of the whole
 pub times_part : {T I O J M X : Type 0} (whole : X → Step T I O) (part : X → Step T J M) → ((x : X) → (part x).time ≡ (whole x).time) → (links : List X) → times_of (map part links) ≡ times_of (map whole links)
@@ -60,7 +64,7 @@ module _ {T I O J M K P X : Type 0} (whole : X → Step T I O) (first : X → St
   parts_fresh F S f s = record { links = []; first_base = 0; second_base = 0; steps = refl; base = refl; first_run = f; second_run = s }
 
   -- one more step of both
-  pub parts_continued : (leq : T → T → Bool) (F F' : Run T J M → Type 0) (S S' : Run T K P → Type 0) (run : Run T I O) (x : X) → ((r : Run T J M) → F r → NoneAbove leq (first x).time (times_of r.steps) → F' (continued r (first x).time (first x).fed (first x).made)) → ((r : Run T K P) → S r → NoneAbove leq (second x).time (times_of r.steps) → S' (continued r (second x).time (second x).fed (second x).made)) → StandsByParts whole first second F S run → NoneAbove leq (whole x).time (times_of run.steps) → StandsByParts whole first second F' S' (continued run (whole x).time (whole x).fed (whole x).made)
+  pub parts_continued : (leq : T → T → Bool) (F F' : Run T J M → Type 0) (S S' : Run T K P → Type 0) (run : Run T I O) (x : X) → ((r : Run T J M) → F r → NoneAbove leq (first x).time (times_of r.steps) → F' (continued r (first x).time (first x).fed (first x).made (first x).charge)) → ((r : Run T K P) → S r → NoneAbove leq (second x).time (times_of r.steps) → S' (continued r (second x).time (second x).fed (second x).made (second x).charge)) → StandsByParts whole first second F S run → NoneAbove leq (whole x).time (times_of run.steps) → StandsByParts whole first second F' S' (continued run (whole x).time (whole x).fed (whole x).made (whole x).charge)
   parts_continued leq F F' S S' run x f s h above =
       let first_above : NoneAbove leq (first x).time (times_of (map first h.links)) = rw (first_time x) (parts_above_first leq h.links run.steps (whole x).time h.steps above) in
       let second_above : NoneAbove leq (second x).time (times_of (map second h.links)) = rw (second_time x) (parts_above_second leq h.links run.steps (whole x).time h.steps above) in
@@ -97,8 +101,8 @@ module _ {T I O J M K P X : Type 0} (whole : X → Step T I O) (first : X → St
 
   -- ---- a step that is fed nothing where nothing is due
 
-  pub parts_idle : (leq : T → T → Bool) (lub : T → T → T) (lattice : IsLattice leq lub) (F : Run T J M → Type 0) (S : Run T K P → Type 0) (first_seal second_seal : T) (first_due second_due : List T) (run : Run T I O) (x : X) → ((r : Run T J M) (u : T) → F r → NoneAbove leq u (times_of r.steps) → IsTrue (leq first_seal u) → NoneBelow leq u first_due → F (continued r u [] [])) → ((r : Run T K P) (u : T) → S r → NoneAbove leq u (times_of r.steps) → IsTrue (leq second_seal u) → NoneBelow leq u second_due → S (continued r u [] [])) → (first x).fed ≡ [] → (first x).made ≡ [] → (second x).fed ≡ [] → (second x).made ≡ [] → StandsByParts whole first second F S run → NoneAbove leq (whole x).time (times_of run.steps) → IsTrue (leq (lub first_seal second_seal) (whole x).time) → NoneBelow leq (whole x).time (first_due ++ second_due) → StandsByParts whole first second F S (continued run (whole x).time (whole x).fed (whole x).made)
-  parts_idle leq lub lattice F S first_seal second_seal first_due second_due run x f s no_fed no_made nor_fed nor_made h above over below = parts_continued leq F F S S run x
-      (λ r w z. rw (no_fed, no_made) (f r (first x).time w z (rw (first_time x) (above_first lattice first_seal second_seal (whole x).time over)) (rw (first_time x) (Every-append_front (λ d. leq d (whole x).time ≡ false) first_due second_due below))))
-      (λ r w z. rw (nor_fed, nor_made) (s r (second x).time w z (rw (second_time x) (above_second lattice first_seal second_seal (whole x).time over)) (rw (second_time x) (Every-append_back (λ d. leq d (whole x).time ≡ false) first_due second_due below))))
+  pub parts_idle : (leq : T → T → Bool) (lub : T → T → T) (lattice : IsLattice leq lub) (F : Run T J M → Type 0) (S : Run T K P → Type 0) (first_seal second_seal : T) (first_due second_due : List T) (run : Run T I O) (x : X) → ((r : Run T J M) (u : T) → F r → NoneAbove leq u (times_of r.steps) → IsTrue (leq first_seal u) → NoneBelow leq u first_due → F (continued r u [] [] 0)) → ((r : Run T K P) (u : T) → S r → NoneAbove leq u (times_of r.steps) → IsTrue (leq second_seal u) → NoneBelow leq u second_due → S (continued r u [] [] 0)) → (first x).fed ≡ [] → (first x).made ≡ [] → (second x).fed ≡ [] → (second x).made ≡ [] → (first x).charge ≡ 0 → (second x).charge ≡ 0 → StandsByParts whole first second F S run → NoneAbove leq (whole x).time (times_of run.steps) → IsTrue (leq (lub first_seal second_seal) (whole x).time) → NoneBelow leq (whole x).time (first_due ++ second_due) → StandsByParts whole first second F S (continued run (whole x).time (whole x).fed (whole x).made (whole x).charge)
+  parts_idle leq lub lattice F S first_seal second_seal first_due second_due run x f s no_fed no_made nor_fed nor_made no_charge nor_charge h above over below = parts_continued leq F F S S run x
+      (λ r w z. rw (no_fed, no_made, no_charge) (f r (first x).time w z (rw (first_time x) (above_first lattice first_seal second_seal (whole x).time over)) (rw (first_time x) (Every-append_front (λ d. leq d (whole x).time ≡ false) first_due second_due below))))
+      (λ r w z. rw (nor_fed, nor_made, nor_charge) (s r (second x).time w z (rw (second_time x) (above_second lattice first_seal second_seal (whole x).time over)) (rw (second_time x) (Every-append_back (λ d. leq d (whole x).time ≡ false) first_due second_due below))))
       h above

@@ -20,46 +20,50 @@ pub record StandsByParts {T I O J M K P X : Type 0} (whole : X → Step T I O) (
 
 -- ---- one after the other
 
--- a step of both: what the first makes is handed on to the second
+-- a step of both: what the first makes is handed on to the second, and the whole is charged what both are
 pub record Link (T I M O : Type 0) : Type 0 where
   pub time : T
   pub fed : List (I × ℕ)
   pub handed : List (M × ℕ)
   pub made : List (O × ℕ)
+  pub first_charge : ℕ
+  pub second_charge : ℕ
 
 abbrev pub link_whole : {T I M O : Type 0} → Link T I M O → Step T I O
-link_whole l = record { time = l.time; fed = l.fed; made = l.made }
+link_whole l = record { time = l.time; fed = l.fed; made = l.made; charge = l.first_charge + l.second_charge }
 
 abbrev pub link_first : {T I M O : Type 0} → Link T I M O → Step T I M
-link_first l = record { time = l.time; fed = l.fed; made = l.handed }
+link_first l = record { time = l.time; fed = l.fed; made = l.handed; charge = l.first_charge }
 
 abbrev pub link_second : {T I M O : Type 0} → Link T I M O → Step T M O
-link_second l = record { time = l.time; fed = l.handed; made = l.made }
+link_second l = record { time = l.time; fed = l.handed; made = l.made; charge = l.second_charge }
 
 abbrev pub StandsByLinks : {T I M O : Type 0} → (Run T I M → Type 0) → (Run T M O → Type 0) → Run T I O → Type 0
 StandsByLinks first second run = StandsByParts link_whole link_first link_second first second run
 
 -- ---- side by side
 
--- a step of both: each is fed the same, and makes a side of what is made
+-- a step of both: each is fed the same, and makes a side of what is made; the whole is charged what both are
 pub record Branch (T I M O : Type 0) : Type 0 where
   pub time : T
   pub fed : List (I × ℕ)
   pub left : List (M × ℕ)
   pub right : List (O × ℕ)
+  pub first_charge : ℕ
+  pub second_charge : ℕ
 
 -- the sum of two collections, the records of each on its side
 abbrev pub both_sides : {M O : Type 0} → List (M × ℕ) → List (O × ℕ) → List (Side M O × ℕ)
 both_sides left right = mapped Left left ++ mapped Right right
 
 abbrev pub branch_whole : {T I M O : Type 0} → Branch T I M O → Step T I (Side M O)
-branch_whole b = record { time = b.time; fed = b.fed; made = both_sides b.left b.right }
+branch_whole b = record { time = b.time; fed = b.fed; made = both_sides b.left b.right; charge = b.first_charge + b.second_charge }
 
 abbrev pub branch_first : {T I M O : Type 0} → Branch T I M O → Step T I M
-branch_first b = record { time = b.time; fed = b.fed; made = b.left }
+branch_first b = record { time = b.time; fed = b.fed; made = b.left; charge = b.first_charge }
 
 abbrev pub branch_second : {T I M O : Type 0} → Branch T I M O → Step T I O
-branch_second b = record { time = b.time; fed = b.fed; made = b.right }
+branch_second b = record { time = b.time; fed = b.fed; made = b.right; charge = b.second_charge }
 
 abbrev pub StandsByBranches : {T I M O : Type 0} → (Run T I M → Type 0) → (Run T I O → Type 0) → Run T I (Side M O) → Type 0
 StandsByBranches first second run = StandsByParts branch_whole branch_first branch_second first second run

@@ -7,19 +7,20 @@ use Rattle.flow_core.specs.Lists.{Every-append}
 use Rattle.flow_core.specs.Runs.{Step, Run, Every, NoneAbove, Answers, fed_to, made_to, times_of, continued, sealed, empty_run}
 use Rattle.flow_core.specs.PartLaws.{times_part, length_part}
 
--- a step: what is handed to the operator inside, and what that gives
+-- a step: what is handed to the operator inside, what that gives, and what it is charged
 pub record Route (T A M O : Type 0) : Type 0 where
   pub time : T
   pub fed : List (A × ℕ)
   pub handed : List (M × ℕ)
   pub given : List (O × ℕ)
   pub made : List (O × ℕ)
+  pub charge : ℕ
 
 abbrev pub route_whole : {T A M O : Type 0} → Route T A M O → Step T A O
-route_whole r = record { time = r.time; fed = r.fed; made = r.made }
+route_whole r = record { time = r.time; fed = r.fed; made = r.made; charge = r.charge }
 
 abbrev pub route_inner : {T A M O : Type 0} → Route T A M O → Step T M O
-route_inner r = record { time = r.time; fed = r.handed; made = r.given }
+route_inner r = record { time = r.time; fed = r.handed; made = r.given; charge = r.charge }
 
 -- what is handed is one function of what is fed, and what is made is another one of it and what the operator inside
 -- gives
@@ -43,7 +44,7 @@ module _ {T A M O : Type 0} (past : List (A × ℕ) → List (O × ℕ)) (into :
   routes_above leq t routes steps is above = rw (times_part route_whole route_inner (λ _. refl) routes, ← is) above
 
   -- a step of the operator inside
-  pub routes_continued : (leq : T → T → Bool) (old new : Run T M O → Type 0) (run : Run T A O) (r : Route T A M O) → IsRoute past into r → ((q : Run T M O) → old q → NoneAbove leq r.time (times_of q.steps) → new (continued q r.time r.handed r.given)) → StandsByRoutes past into old run → NoneAbove leq r.time (times_of run.steps) → StandsByRoutes past into new (continued run r.time r.fed r.made)
+  pub routes_continued : (leq : T → T → Bool) (old new : Run T M O → Type 0) (run : Run T A O) (r : Route T A M O) → IsRoute past into r → ((q : Run T M O) → old q → NoneAbove leq r.time (times_of q.steps) → new (continued q r.time r.handed r.given r.charge)) → StandsByRoutes past into old run → NoneAbove leq r.time (times_of run.steps) → StandsByRoutes past into new (continued run r.time r.fed r.made r.charge)
   routes_continued leq old new run r is step h above =
       let inner_above : NoneAbove leq r.time (times_of (map route_inner h.routes)) = routes_above leq r.time h.routes run.steps h.steps above in
       record {
@@ -64,9 +65,9 @@ module _ {T A M O : Type 0} (past : List (A × ℕ) → List (O × ℕ)) (into :
 
 module _ {T A M O : Type 0} (past : List (A × ℕ) → List (O × ℕ)) (into : List (A × ℕ) → List (M × ℕ)) (past_linear : IsLinear past) (into_linear : IsLinear into) where
   -- a step that is fed nothing where nothing is due
-  pub routes_idle : (leq : T → T → Bool) (stands : Run T M O → Type 0) (run : Run T A O) (t : T) → ((q : Run T M O) → stands q → NoneAbove leq t (times_of q.steps) → stands (continued q t [] [])) → StandsByRoutes past into stands run → NoneAbove leq t (times_of run.steps) → StandsByRoutes past into stands (continued run t [] [])
+  pub routes_idle : (leq : T → T → Bool) (stands : Run T M O → Type 0) (run : Run T A O) (t : T) → ((q : Run T M O) → stands q → NoneAbove leq t (times_of q.steps) → stands (continued q t [] [] 0)) → StandsByRoutes past into stands run → NoneAbove leq t (times_of run.steps) → StandsByRoutes past into stands (continued run t [] [] 0)
   routes_idle leq stands run t idle h above =
-      let r : Route T A M O = record { time = t; fed = []; handed = []; given = []; made = [] } in
+      let r : Route T A M O = record { time = t; fed = []; handed = []; given = []; made = []; charge = 0 } in
       let is : IsRoute past into r = record { handed = rw into_linear.nothing (Alike-refl []); made = rw past_linear.nothing (Alike-refl []) } in
       routes_continued past into leq stands stands run r is idle h above
 

@@ -4,11 +4,12 @@ use Rattle.std.specs.declared.cmp.Ordering.{Ordering}
 use Rattle.std.specs.Ordering.{is_gt}
 use Rattle.weighted.specs.Alike.{Alike}
 
--- one Ok step: its time, what was fed and what was made
+-- one Ok step: its time, what was fed, what was made, and by how much the charge rose
 pub record Step (T I O : Type 0) : Type 0 where
   pub time : T
   pub fed : List (I × ℕ)
   pub made : List (O × ℕ)
+  pub charge : ℕ
 
 -- the Ok steps, how many of them came before the last Ok seal, and the charge at that seal; both are 0 where there was
 -- none
@@ -22,8 +23,8 @@ abbrev pub empty_run : {T I O : Type 0} → Run T I O
 empty_run = record { steps = []; before = 0; base = 0 }
 
 -- one more step
-abbrev pub continued : {T I O : Type 0} → Run T I O → T → List (I × ℕ) → List (O × ℕ) → Run T I O
-continued run t fed made = record { steps = run.steps ++ record { time = t; fed = fed; made = made } ∷ []; before = run.before; base = run.base }
+abbrev pub continued : {T I O : Type 0} → Run T I O → T → List (I × ℕ) → List (O × ℕ) → ℕ → Run T I O
+continued run t fed made charge = record { steps = run.steps ++ record { time = t; fed = fed; made = made; charge = charge } ∷ []; before = run.before; base = run.base }
 
 -- all steps so far come before the seal, at this charge
 abbrev pub sealed : {T I O : Type 0} → Run T I O → ℕ → Run T I O
@@ -33,6 +34,11 @@ sealed run charge = record { steps = run.steps; before = length run.steps; base 
 abbrev pub times_of : {T I O : Type 0} → List (Step T I O) → List T
 times_of [] = []
 times_of (s ∷ ss) = s.time ∷ times_of ss
+
+-- what each step was charged
+abbrev pub charges_of : {T I O : Type 0} → List (Step T I O) → List ℕ
+charges_of [] = []
+charges_of (s ∷ ss) = s.charge ∷ charges_of ss
 
 -- ---- accumulation: the sum of the collections at times at or below t
 

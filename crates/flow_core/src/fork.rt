@@ -123,7 +123,7 @@ impl<T: Time, U: Counted, A: Operator<T, U>, B: Operator<T, U, Input = A::Input>
 
     ghost respects = { λ s xs ys h. Alike-both_sides _ _ _ _ (A.respects s.first xs ys h) (B.respects s.second xs ys h) };
 
-    ghost idle = { λ s run t h above over below. (parts_idle branch_whole branch_first branch_second (λ _. refl) (λ _. refl) T.leq T.lub T.lattice (A.stands s.first) (B.stands s.second) (A.seal s.first) (B.seal s.second) (A.due s.first) (B.due s.second) run (record { time = t; fed = []; left = []; right = [] }) (A.idle s.first) (B.idle s.second) refl refl refl refl h.0 above over below, h.1) };
+    ghost idle = { λ s run t h above over below. (parts_idle branch_whole branch_first branch_second (λ _. refl) (λ _. refl) T.leq T.lub T.lattice (A.stands s.first) (B.stands s.second) (A.seal s.first) (B.seal s.second) (A.due s.first) (B.due s.second) run (record { time = t; fed = []; left = []; right = []; first_charge = 0; second_charge = 0 }) (A.idle s.first) (B.idle s.second) refl refl refl refl refl refl h.0 above over below, h.1) };
 
     ghost paid = { λ s run h. parts_paid branch_whole branch_first branch_second (λ _. refl) (λ _. refl) (A.stands s.first) (B.stands s.second) (A.charge s.first) (B.charge s.second) run (A.paid s.first) (B.paid s.second) h.0 };
 

@@ -13,6 +13,6 @@ use surge_outside::Counted;
 pub fn lawful<T: Time, U: Counted, O: Operator<T, U>>(operator: &O)
     ensures answers { (run : Run T O.Input O.Output) → O.stands operator.now run → Answers T.leq T.lub (O.apply operator.now) (O.seal operator.now) (O.due operator.now) run }
     ensures respects { (xs ys : List (O.Input × ℕ)) → Alike xs ys → Alike (O.apply operator.now xs) (O.apply operator.now ys) }
-    ensures idle { (run : Run T O.Input O.Output) (t : T) → O.stands operator.now run → NoneAbove T.leq t (times_of run.steps) → IsTrue (T.leq (O.seal operator.now) t) → NoneBelow T.leq t (O.due operator.now) → O.stands operator.now (continued run t [] []) }
+    ensures idle { (run : Run T O.Input O.Output) (t : T) → O.stands operator.now run → NoneAbove T.leq t (times_of run.steps) → IsTrue (T.leq (O.seal operator.now) t) → NoneBelow T.leq t (O.due operator.now) → O.stands operator.now (continued run t [] [] 0) }
     ensures paid { (run : Run T O.Input O.Output) → O.stands operator.now run → run.base ≤ O.charge operator.now }
 {}

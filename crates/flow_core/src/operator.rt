@@ -1,6 +1,6 @@
 //! What an operator is.
 
-ghost use Rattle.std.specs.Prelude.{◌≡◌, ℕ, ◌+◌, ◌≤◌, ◌⊎◌, Bool, true, false, IsTrue, List, [], IfOk, OnOk, OnErr};
+ghost use Rattle.std.specs.Prelude.{◌≡◌, ℕ, ◌+◌, ◌-◌, ◌≤◌, ◌⊎◌, Bool, true, false, IsTrue, List, [], IfOk, OnOk, OnErr};
 ghost use Rattle.weighted.specs.Alike.{Alike};
 ghost use Rattle.flow_core.specs.Runs.{Run, continued, sealed, times_of, Every, Member, NoneAbove, NoneBelow, Answers, IsNextDue};
 
@@ -17,9 +17,9 @@ use weighted::Batch;
 /// least upper bound of times of steps. The seal is a time below which no step comes any more, so that an operator may
 /// put together what it keeps of earlier times.
 ///
-/// Contracts speak of the runs for which an operator stands: lists of steps, each with its time, what was fed and what
-/// was made. The operator need not store them; for each run for which it stood before a call, the contract names the
-/// run for which it stands afterwards.
+/// Contracts speak of the runs for which an operator stands: lists of steps, each with its time, what was fed, what was
+/// made, and by how much the charge rose. The operator need not store them; for each run for which it stood before a
+/// call, the contract names the run for which it stands afterwards.
 pub trait Operator<T: Time, U: Counted> {
     /// What it is fed.
     type Input: Record;
@@ -67,7 +67,7 @@ pub trait Operator<T: Time, U: Counted> {
         requires due { Every (λ d. IsTrue (T.leq d t) → d ≡ t) (due self.old) }
         requires seal { IsTrue (T.leq (seal self.old) t) }
         requires live { spent self.old ≡ false }
-        ensures runs { IfOk result (λ made. (run : Run T Self.Input Self.Output) → stands self.old run → NoneAbove T.leq t (times_of run.steps) → stands self.new (continued run t delta.now made)) }
+        ensures runs { IfOk result (λ made. (run : Run T Self.Input Self.Output) → stands self.old run → NoneAbove T.leq t (times_of run.steps) → stands self.new (continued run t delta.now made (charge self.new - charge self.old))) }
         ensures due { OnOk result (Every (λ d. Member d (due self.old) ⊎ IsTrue (T.leq t d)) (due self.new)) }
         ensures seal { OnOk result (seal self.new ≡ seal self.old) }
         ensures live { OnOk result (spent self.new ≡ false) }
@@ -114,8 +114,9 @@ pub trait Operator<T: Time, U: Counted> {
     /// One collection has one function.
     ghost respects: { (operator : Self) (xs ys : List (Self.Input × ℕ)) → Alike xs ys → Alike (apply operator xs) (apply operator ys) };
 
-    /// Where nothing is due at or below a time, a step there that is fed nothing makes nothing and need not be taken.
-    ghost idle: { (operator : Self) (run : Run T Self.Input Self.Output) (t : T) → stands operator run → NoneAbove T.leq t (times_of run.steps) → IsTrue (T.leq (seal operator) t) → NoneBelow T.leq t (due operator) → stands operator (continued run t [] []) };
+    /// Where nothing is due at or below a time, a step there that is fed nothing makes nothing, is charged nothing and
+    /// need not be taken.
+    ghost idle: { (operator : Self) (run : Run T Self.Input Self.Output) (t : T) → stands operator run → NoneAbove T.leq t (times_of run.steps) → IsTrue (T.leq (seal operator) t) → NoneBelow T.leq t (due operator) → stands operator (continued run t [] [] 0) };
 
     /// What was charged up to the seal is no more than what was charged so far.
     ghost paid: { (operator : Self) (run : Run T Self.Input Self.Output) → stands operator run → run.base ≤ charge operator };

@@ -4,10 +4,10 @@ use Rattle.std.specs.declared.cmp.Ordering.{Ordering}
 use Rattle.lattice_time.specs.declared.pair.Pair.{Pair}
 use Rattle.lattice_time.specs.declared.round.Round.{Round}
 use Rattle.weighted.specs.Alike.{Alike}
-use Rattle.flow_core.specs.Runs.{Run, NoneBelow, fed_to, times_of}
-use Rattle.reduce_theory.specs.Evaluated.{key_part, charged}
+use Rattle.flow_core.specs.Runs.{Run, NoneBelow, fed_to, times_of, charges_of}
+use Rattle.reduce_theory.specs.Evaluated.{key_part, EachCharged, charged}
 use Rattle.loop_theory.specs.Loops.{pair_leq, pair_lub, pair_of}
-use Rattle.inner_theory.specs.Inside.{LoopInside, all_rounds}
+use Rattle.inner_theory.specs.Inside.{AreSums, LoopInside, all_rounds}
 use Rattle.graph_model.specs.declared.value.Val.{Val}
 use Rattle.graph_model.specs.declared.number.NodeNo.{NodeNo}
 use Rattle.graph_model.specs.GraphData.{GraphData}
@@ -26,9 +26,10 @@ use Rattle.view_items.specs.Rounds.{round_of}
 use Rattle.view_items.specs.Laws.{IsOrder}
 use Rattle.flow_work.specs.Turns.{IsViewOf}
 
--- one step a round of each step of the whole, each charged the nodes that are evaluated there; a seal of the whole
--- seals it at round 0; and where what the whole was fed up to a time at which nothing is due is a view, each node was
--- fed its input in each round of the view's plain run, once, and no other number was fed anything
+-- one step a round of each step of the whole; a seal of the whole seals it at round 0; where what the whole was fed up
+-- to a time at which nothing is due is a view, each node was fed its input in each round of the view's plain run, once,
+-- and no other number was fed anything; each step of the whole is charged what its rounds are, together, and each of
+-- these since the seal the nodes that are evaluated at it, judged over the run up to it; these are all that is charged
 pub record InnerRun {T : Type 0} (leq : T → T → Bool) (lub : T → T → T) (pcmp : Pair T Round → Pair T Round → Ordering) (ncmp : NodeNo → NodeNo → Ordering) (icmp : NodeItem → NodeItem → Ordering) (answer : Answer) (p : Program) (graph : GraphData) (rounds : ℕ) (seal : T) (due : List T) (charge : ℕ) (run : Run T FlowInput (Round × (NodeNo × Val))) : Type 0 where
   pub inner : Run (Pair T Round) (NodeNo × NodeItem) (NodeNo × Val)
   pub times : times_of inner.steps ≡ all_rounds rounds (times_of run.steps)
@@ -39,6 +40,8 @@ pub record InnerRun {T : Type 0} (leq : T → T → Bool) (lub : T → T → T) 
       → (r : ℕ) → r < rounds → (v : NodeNo)
       → (v.0 < length graph.ids → Alike (key_part ncmp v (fed_to (pair_leq leq) inner.steps (pair_of t r))) (once named (input answer p graph arcs v.0 r)))
       × (length graph.ids ≤ v.0 → Alike (key_part ncmp v (fed_to (pair_leq leq) inner.steps (pair_of t r))) [])
+  pub charges : AreSums rounds (charges_of run.steps) (charges_of inner.steps)
+  pub each : EachCharged (pair_leq leq) (pair_lub lub) pcmp ncmp icmp (pair_of seal 0) (take inner.before inner.steps) [] (drop inner.before inner.steps)
   pub charged_is : charge ≡ inner.base + charged (pair_leq leq) (pair_lub lub) pcmp ncmp icmp (pair_of seal 0) (take inner.before inner.steps) [] (drop inner.before inner.steps)
 
 -- what stands inside such a loop is such a run

@@ -29,5 +29,7 @@ inner-is-fed leq lub pcmp ncmp n acmp a icmp o answer p graph rounds seal due ch
       let part : Alike (key_part ncmp v (fed_to (pair_leq leq) l.inner.steps (pair_of t r))) (key_part ncmp v (items ncmp p graph held)) = at_each_key ncmp n.same (tied_itself n.total) (fed_to (pair_leq leq) l.inner.steps (pair_of t r)) (items ncmp p graph held) (l.fed t r low over below) v in
       let got = items-are-inputs ncmp n answer p graph arcs r view.are_arcs view.few held (held-rounds ncmp n icmp o answer p graph arcs view.are_arcs view.few came (view-is-prepared ncmp n acmp a answer p graph arcs view.are_arcs view.few (fed_to leq run.steps t) fed) r) v in
       ((λ h. Alike-trans part (got.0 h)), (λ h. Alike-trans part (got.1 h)));
+  charges = l.charges;
+  each = l.each;
   charged_is = l.charged_is;
 }

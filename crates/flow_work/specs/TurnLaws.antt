@@ -57,7 +57,7 @@ use Rattle.flow_work.specs.FullLaws.{batch-full}
 
 turns_of : {T V O : Type 0} → List (Step T V O) → List (Turn V O)
 turns_of [] = []
-turns_of (s ∷ ss) = record { fed = s.fed; made = s.made } ∷ turns_of ss
+turns_of (s ∷ ss) = record { fed = s.fed; made = s.made; charge = s.charge } ∷ turns_of ss
 
 head_is : {A : Type 0} (x y : A) (xs ys : List A) → x ∷ xs ≡ y ∷ ys → x ≡ y
 head_is x y xs ys e = cc
@@ -74,7 +74,7 @@ module _ {T V O : Type 0} where
   lap_is t k zero (s ∷ ss) e = absurd (cc)
   lap_is t k (suc n) (s ∷ ss) e =
       let at : s.time ≡ pair_of t k = head_is s.time (pair_of t k) (times_of ss) (rounds_from t (suc k) n) e in
-      ap (λ u. record { time = u; fed = s.fed; made = s.made } ∷ ss) at ∙ ap (λ rest. record { time = pair_of t k; fed = s.fed; made = s.made } ∷ rest) (lap_is t (suc k) n ss (tail_is s.time (pair_of t k) (times_of ss) (rounds_from t (suc k) n) e))
+      ap (λ u. record { time = u; fed = s.fed; made = s.made; charge = s.charge } ∷ ss) at ∙ ap (λ rest. record { time = pair_of t k; fed = s.fed; made = s.made; charge = s.charge } ∷ rest) (lap_is t (suc k) n ss (tail_is s.time (pair_of t k) (times_of ss) (rounds_from t (suc k) n) e))
 
   lap_long : (t : T) (k n : ℕ) (ss : List (Step (Pair T Round) V O)) → times_of ss ≡ rounds_from t k n → length (turns_of ss) ≡ n
   unfolding turns_of

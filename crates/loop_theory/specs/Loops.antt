@@ -1,5 +1,5 @@
 -- Loops: what a body that is applied again and again gives, the steps that it takes, and the runs of a loop.
-use Rattle.std.specs.Prelude.{◌≡◌, ℕ, ◌*◌, ◌≤◌, ◌&&◌, nat_le, max, Bool, false, List, [], ◌∷◌, ◌++◌, length, map}
+use Rattle.std.specs.Prelude.{◌≡◌, ℕ, ◌+◌, ◌*◌, ◌≤◌, ◌&&◌, nat_le, max, Bool, false, List, [], ◌∷◌, ◌++◌, length, map}
 use Rattle.std.proofs.Common.{zero, suc}
 use Rattle.lattice_time.specs.declared.pair.Pair.{Pair}
 use Rattle.lattice_time.specs.declared.round.Round.{Round}
@@ -47,10 +47,11 @@ pair_of t r = record { outer = t; inner = record { 0 = r } }
 
 -- ---- laps: the steps of the body in one step of the loop
 
--- what the body is fed at a round, and what it makes
+-- what the body is fed at a round, what it makes, and what it is charged
 pub record Exchange (F X : Type 0) : Type 0 where
   pub fed : List (LoopInput F X × ℕ)
   pub made : List (X × ℕ)
+  pub charge : ℕ
 
 -- each round is fed, as moving, the change that the round before made
 abbrev pub FedBy : {F X : Type 0} → List (X × ℕ) → List (Exchange F X) → Type 0
@@ -73,27 +74,36 @@ abbrev pub came : {F X : Type 0} → List (LoopInput F X × ℕ) → List (Excha
 came fed taken zero = moving fed
 came fed taken (suc q) = first_of (λ e. e.made) (suc q) taken
 
--- one step of the loop: what came in, what the body was fed and made at each round, and what the loop made
+-- what they are charged together
+abbrev pub charge_of : {F X : Type 0} → List (Exchange F X) → ℕ
+charge_of [] = 0
+charge_of (e ∷ es) = e.charge + charge_of es
+
+-- one step of the loop: what came in, what the body was fed and made at each round, what the loop made, and what it was
+-- charged
 pub record Lap (T F X : Type 0) : Type 0 where
   pub time : T
   pub fed : List (LoopInput F X × ℕ)
   pub taken : List (Exchange F X)
   pub made : List ((Round × X) × ℕ)
+  pub charge : ℕ
 
--- the body took a step at each round, and the loop made at each round the change of what the lap came to
+-- the body took a step at each round, and the loop made at each round the change of what the lap came to; it is charged what
+-- the body is
 pub record IsLap {T F X : Type 0} (rounds : ℕ) (lap : Lap T F X) : Type 0 where
   pub count : length lap.taken ≡ rounds
   pub goes : IsFed lap.fed lap.taken
   pub gives : Alike lap.made (changes (came lap.fed lap.taken) rounds)
+  pub charge : lap.charge ≡ charge_of lap.taken
 
 -- the step of the loop
 abbrev pub lap_step : {T F X : Type 0} → Lap T F X → Step T (LoopInput F X) (Round × X)
-lap_step l = record { time = l.time; fed = l.fed; made = l.made }
+lap_step l = record { time = l.time; fed = l.fed; made = l.made; charge = l.charge }
 
 -- the steps of the body, from a round on
 abbrev pub steps_from : {T F X : Type 0} → T → ℕ → List (Exchange F X) → List (Step (Pair T Round) (LoopInput F X) X)
 steps_from t k [] = []
-steps_from t k (e ∷ es) = record { time = pair_of t k; fed = e.fed; made = e.made } ∷ steps_from t (suc k) es
+steps_from t k (e ∷ es) = record { time = pair_of t k; fed = e.fed; made = e.made; charge = e.charge } ∷ steps_from t (suc k) es
 
 abbrev pub body_steps : {T F X : Type 0} → List (Lap T F X) → List (Step (Pair T Round) (LoopInput F X) X)
 body_steps [] = []

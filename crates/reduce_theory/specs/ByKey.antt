@@ -182,7 +182,7 @@ pick kcmp k false es = refl
 module _ {T K V O : Type 0} (kcmp : K → K → Ordering) (same : (x y : K) → kcmp x y ≡ Equal → x ≡ y) (itself : (x : K) → kcmp x x ≡ Equal) (k : K) where
   pub key_steps-append : (xs ys : List (Step T (K × V) (K × O))) → key_steps kcmp k (xs ++ ys) ≡ key_steps kcmp k xs ++ key_steps kcmp k ys
   key_steps-append [] ys = refl
-  key_steps-append (s ∷ xs) ys = ap (λ v. record { time = s.time; fed = key_part kcmp k s.fed; made = key_part kcmp k s.made } ∷ v) (key_steps-append xs ys)
+  key_steps-append (s ∷ xs) ys = ap (λ v. record { time = s.time; fed = key_part kcmp k s.fed; made = key_part kcmp k s.made; charge = s.charge } ∷ v) (key_steps-append xs ys)
 
   pub times_of-key : (ss : List (Step T (K × V) (K × O))) → times_of (key_steps kcmp k ss) ≡ times_of ss
   times_of-key [] = refl

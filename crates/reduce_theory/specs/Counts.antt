@@ -6,7 +6,7 @@ use Rattle.std.specs.Ordering.{is_eq}
 use Rattle.std.specs.Cmp.{Equal-is}
 use Rattle.std.proofs.Common.{arith, ap, sym, subst, ◌∙◌, inl, inr, append_assoc}
 use Rattle.flow_core.specs.Runs.{Step, Member}
-use Rattle.reduce_theory.specs.Evaluated.{key_part, key_steps, has_key, keys_in, keys_of, new_marks, is_evaluated, evaluations, charged}
+use Rattle.reduce_theory.specs.Evaluated.{key_part, key_steps, has_key, keys_in, keys_of, new_marks, is_evaluated, evaluations, charged, EachCharged}
 use Rattle.reduce_theory.specs.Members.{Member-passes, Member-unfiltered, Member-filtered}
 use Rattle.reduce_theory.specs.MarkLaws.{not_empty}
 use Rattle.reduce_theory.specs.ByKey.{Distinct}
@@ -153,6 +153,13 @@ module _ {K : Type 0} (kcmp : K → K → Ordering) (same : (x y : K) → kcmp x
         same_length (filter test all) ks (Apart-filter test all (distinct_apart all (keys_of-distinct (old ++ new)))) apart
         (λ k m. only k (Member-passes test all k m))
         (λ k m. Member-filtered test all k (keys_of-later old new k (keys_of-marked new k (marked k m).0 (marked k m).1)) (each k m))
+
+    -- each of them is charged its own, and so is one more
+    pub each_charged-last : (leq : T → T → Bool) (lub : T → T → T) (tcmp : T → T → Ordering) (vcmp : V → V → Ordering) (seal : T) (old done new : List (Step T (K × V) (K × O))) (s : Step T (K × V) (K × O)) → EachCharged leq lub tcmp kcmp vcmp seal old done new → s.charge ≡ evaluations leq lub tcmp kcmp vcmp seal s.time old (done ++ (new ++ s ∷ [])) → EachCharged leq lub tcmp kcmp vcmp seal old done (new ++ s ∷ [])
+    each_charged-last leq lub tcmp vcmp seal old done [] s h is = (is, tt)
+    each_charged-last leq lub tcmp vcmp seal old done (r ∷ new) s h is =
+        let one : (done ++ r ∷ []) ++ (new ++ s ∷ []) ≡ done ++ (r ∷ (new ++ s ∷ [])) = append_assoc done (r ∷ []) (new ++ s ∷ []) in
+        (h.0, each_charged-last leq lub tcmp vcmp seal old (done ++ r ∷ []) new s h.1 (is ∙ ap (evaluations leq lub tcmp kcmp vcmp seal s.time old) (sym one)))
 
     -- the steps after the seal are charged one by one
     pub charged-last : (leq : T → T → Bool) (lub : T → T → T) (tcmp : T → T → Ordering) (vcmp : V → V → Ordering) (seal : T) (old done new : List (Step T (K × V) (K × O))) (s : Step T (K × V) (K × O)) → charged leq lub tcmp kcmp vcmp seal old done (new ++ s ∷ []) ≡ charged leq lub tcmp kcmp vcmp seal old done new + evaluations leq lub tcmp kcmp vcmp seal s.time old (done ++ (new ++ s ∷ []))

@@ -1,5 +1,5 @@
 -- Which keys a step evaluates, and how many.
-use Rattle.std.specs.Prelude.{ℕ, ◌+◌, ◌==◌, ◌&&◌, ◌||◌, not, Bool, false, List, [], ◌∷◌, ◌++◌, length, if◌then◌else◌, map, filter}
+use Rattle.std.specs.Prelude.{◌≡◌, ℕ, ◌+◌, ◌==◌, ◌&&◌, ◌||◌, not, Bool, false, List, [], ◌∷◌, ◌++◌, length, if◌then◌else◌, map, filter}
 use Rattle.std.specs.List.{list_any}
 use Rattle.std.specs.declared.cmp.Ordering.{Ordering}
 use Rattle.std.specs.Ordering.{is_eq}
@@ -15,7 +15,7 @@ key_part kcmp k (e ∷ es) = if is_eq (kcmp e.0.0 k) then (e.0.1, e.1) ∷ key_p
 
 abbrev pub key_steps : {T K V O : Type 0} → (K → K → Ordering) → K → List (Step T (K × V) (K × O)) → List (Step T V O)
 key_steps kcmp k [] = []
-key_steps kcmp k (s ∷ ss) = record { time = s.time; fed = key_part kcmp k s.fed; made = key_part kcmp k s.made } ∷ key_steps kcmp k ss
+key_steps kcmp k (s ∷ ss) = record { time = s.time; fed = key_part kcmp k s.fed; made = key_part kcmp k s.made; charge = s.charge } ∷ key_steps kcmp k ss
 
 -- ---- the marks of one key
 
@@ -80,6 +80,11 @@ keys_of kcmp (s ∷ ss) = keys_in kcmp s.fed (keys_of kcmp ss)
 -- how many keys are evaluated at t
 abbrev pub evaluations : {T K V O : Type 0} → (T → T → Bool) → (T → T → T) → (T → T → Ordering) → (K → K → Ordering) → (V → V → Ordering) → T → T → List (Step T (K × V) (K × O)) → List (Step T (K × V) (K × O)) → ℕ
 evaluations leq lub tcmp kcmp vcmp seal t old new = length (filter (λ k. is_evaluated leq lub tcmp vcmp seal t (key_steps kcmp k old) (key_steps kcmp k new)) (keys_of kcmp (old ++ new)))
+
+-- each of the later steps was charged the keys that are evaluated at it, judged over the run up to it
+abbrev pub EachCharged : {T K V O : Type 0} → (T → T → Bool) → (T → T → T) → (T → T → Ordering) → (K → K → Ordering) → (V → V → Ordering) → T → List (Step T (K × V) (K × O)) → List (Step T (K × V) (K × O)) → List (Step T (K × V) (K × O)) → Type 0
+EachCharged leq lub tcmp kcmp vcmp seal old done [] = Unit {0}
+EachCharged leq lub tcmp kcmp vcmp seal old done (s ∷ ss) = (s.charge ≡ evaluations leq lub tcmp kcmp vcmp seal s.time old (done ++ s ∷ [])) × EachCharged leq lub tcmp kcmp vcmp seal old (done ++ s ∷ []) ss
 
 -- the evaluations of the later steps, each judged over the run up to that step
 abbrev pub charged : {T K V O : Type 0} → (T → T → Bool) → (T → T → T) → (T → T → Ordering) → (K → K → Ordering) → (V → V → Ordering) → T → List (Step T (K × V) (K × O)) → List (Step T (K × V) (K × O)) → List (Step T (K × V) (K × O)) → ℕ

@@ -5,7 +5,7 @@ use Rattle.std.specs.declared.cmp.Ordering.{Ordering}
 use Rattle.weighted.specs.Alike.{Alike, negated}
 use Rattle.weighted.specs.Normal.{normal}
 use Rattle.flow_core.specs.Runs.{Step, Run, Every, Member, fed_to, made_to, times_of}
-use Rattle.reduce_theory.specs.Evaluated.{charged, key_part, key_steps}
+use Rattle.reduce_theory.specs.Evaluated.{EachCharged, charged, key_part, key_steps}
 use Rattle.reduce_theory.specs.Keys.{KeyRun}
 use Rattle.reduce_theory.specs.MarkLaws.{IsOldMark}
 use Rattle.reduce_theory.specs.Counts.{Apart}
@@ -40,7 +40,8 @@ new_steps run = drop run.before run.steps
 -- the store keeps a run
 pub record Keeps {K V O T : Type 0} (leq : T → T → Bool) (lub : T → T → T) (tcmp : T → T → Ordering) (kcmp : K → K → Ordering) (vcmp : V → V → Ordering) (gives : K → List (V × ℕ) → List (O × ℕ)) (store : Store K V O T) (run : Run T (K × V) (K × O)) : Type 0 where
   pub sealed : run.before ≤ length run.steps
-  -- each key that is evaluated since the seal was charged once at each step that evaluates it
+  -- each step since the seal was charged the keys that are evaluated at it, and together they are all that was charged
+  pub each : EachCharged leq lub tcmp kcmp vcmp store.seal (old_steps run) [] (new_steps run)
   pub paid : store.charge ≡ run.base + charged leq lub tcmp kcmp vcmp store.seal (old_steps run) [] (new_steps run)
   -- each step since the seal is at or above it
   pub above : Every (λ s. IsTrue (leq store.seal s)) (times_of (new_steps run))

@@ -1,5 +1,5 @@
 -- A step, a step that is left out, a seal and no step at all: the runs that a store keeps afterwards.
-use Rattle.std.specs.Prelude.{◌≡◌, ◌≢◌, ℕ, ◌+◌, ◌%◌, ◌^◌, ◌⊎◌, ◌&&◌, ◌==◌, Bool, true, false, IsTrue, List, [], ◌∷◌, ◌++◌, length, take, drop, if◌then◌else◌, refl}
+use Rattle.std.specs.Prelude.{◌≡◌, ◌≢◌, ℕ, ◌+◌, ◌-◌, ◌%◌, ◌^◌, ◌⊎◌, ◌&&◌, ◌==◌, Bool, true, false, IsTrue, List, [], ◌∷◌, ◌++◌, length, take, drop, if◌then◌else◌, refl}
 use Rattle.std.specs.declared.cmp.Ordering.{Ordering}
 use Rattle.std.specs.declared.cmp.Ordering.TheVariants.{Equal}
 use Rattle.std.specs.Ordering.{is_eq}
@@ -13,13 +13,13 @@ use Rattle.weighted.specs.WordLaws.{total}
 use Rattle.flow_core.specs.Runs.{Step, Run, Every, Member, NoneAbove, fed_to, made_to, times_of, empty_run, continued, sealed}
 use Rattle.flow_core.specs.Lists.{Every-append, Every-append_back, Every-map, Every-member}
 use Rattle.flow_core.specs.RunLaws.{fed_to_last, made_to_last, times_of-append}
-use Rattle.reduce_theory.specs.Evaluated.{key_part, key_steps, has_key, new_marks, some_below, lub_below, old_marks, is_evaluated, charged, evaluations}
+use Rattle.reduce_theory.specs.Evaluated.{key_part, key_steps, has_key, new_marks, some_below, lub_below, old_marks, is_evaluated, charged, EachCharged, evaluations}
 use Rattle.reduce_theory.specs.Keys.{IsPoint, KeyRun}
 use Rattle.reduce_theory.specs.MarkLaws.{old_mark_is, old_mark_in, empty_or, new_marks-append, lub-evaluated}
 use Rattle.reduce_theory.specs.KeyLaws.{true_or_false, lub_above, key_idle}
 use Rattle.reduce_theory.specs.KeySteps.{key_untouched, key_evaluated, key_sealed, key_fresh}
 use Rattle.reduce_theory.specs.ByKey.{pick, part-append, key_steps-append, times_of-key, fed_to-key, made_to-key}
-use Rattle.reduce_theory.specs.Counts.{member_has, has_member, evaluations-are, charged-last}
+use Rattle.reduce_theory.specs.Counts.{member_has, has_member, evaluations-are, charged-last, each_charged-last}
 use Rattle.reduce_theory.specs.Kept.{Store, IsMark, Keeps, IsCovered, Advances, Closes, IsEmpty, logic_of, old_steps, new_steps}
 use Rattle.reduce_theory.specs.KeptLaws.{logic-respects, key_parts, key_above}
 
@@ -37,6 +37,9 @@ not_true : (b : Bool) → (b ≡ true → ⊥) → b ≡ false
 not_true true h = absurd (h refl)
 not_true false h = refl
 
+no_rise : (n : ℕ) → n - n ≡ 0
+no_rise n = omega arith
+
 nothing_if : {A : Type 0} (b : Bool) (xs : List A) → xs ≡ xs ++ (if b then [] else [])
 nothing_if true xs = sym (append-nil xs)
 nothing_if false xs = sym (append-nil xs)
@@ -51,10 +54,10 @@ unmarked leq lub tcmp vcmp seal t old new s e =
 module _ {K V O T : Type 0} (leq : T → T → Bool) (lub : T → T → T) (lattice : IsLattice leq lub) (tcmp : T → T → Ordering) (tsame : (x y : T) → tcmp x y ≡ Equal → x ≡ y) (titself : (x : T) → tcmp x x ≡ Equal) (kcmp : K → K → Ordering) (ksame : (x y : K) → kcmp x y ≡ Equal → x ≡ y) (kitself : (x : K) → kcmp x x ≡ Equal) (vcmp : V → V → Ordering) (vtotal : IsTotalOrder vcmp) (vsame : (x y : V) → vcmp x y ≡ Equal → x ≡ y) (gives : K → List (V × ℕ) → List (O × ℕ)) (nothing : (k : K) → gives k [] ≡ []) where
   module _ (old new : Store K V O T) (run : Run T (K × V) (K × O)) (h : Keeps leq lub tcmp kcmp vcmp gives old run) (t : T) (delta : List ((K × V) × ℕ)) (made : List ((K × O) × ℕ)) (ks : List K) (c : Advances leq lub kcmp vcmp gives old new t delta made ks) (later : NoneAbove leq t (times_of run.steps)) (over_seal : IsTrue (leq old.seal t)) (ready : (k : K) (d : T) → old.Due k d → IsTrue (leq d t) → d ≡ t) where
     abbrev last : Step T (K × V) (K × O)
-    last = record { time = t; fed = delta; made = made }
+    last = record { time = t; fed = delta; made = made; charge = new.charge - old.charge }
 
     abbrev key_last : K → Step T V O
-    key_last k = record { time = t; fed = key_part kcmp k delta; made = key_part kcmp k made }
+    key_last k = record { time = t; fed = key_part kcmp k delta; made = key_part kcmp k made; charge = new.charge - old.charge }
 
     abbrev olds : K → List (Step T V O)
     olds k = key_steps kcmp k (old_steps run)
@@ -194,6 +197,12 @@ module _ {K V O T : Type 0} (leq : T → T → Bool) (lub : T → T → T) (latt
         (λ k m. let p = point_now k m in (p.first, p.is_new))
         (λ k e. elim (called_or k) [ inl m ↦ m | inr n ↦ absurd (absurd_bool _ (idle_now k n) e) ])
 
+    risen : new.charge - old.charge ≡ length ks
+    risen = omega (arith, c.charge)
+
+    each_now : EachCharged leq lub tcmp kcmp vcmp old.seal (old_steps run) [] (new_steps run ++ last ∷ [])
+    each_now = each_charged-last kcmp ksame kitself leq lub tcmp vcmp old.seal (old_steps run) [] (new_steps run) last h.each (risen ∙ sym counted)
+
     paid_now : new.charge ≡ run.base + charged leq lub tcmp kcmp vcmp old.seal (old_steps run) [] (new_steps run ++ last ∷ [])
     paid_now = rw (charged-last kcmp ksame kitself leq lub tcmp vcmp old.seal (old_steps run) [] (new_steps run) last, counted) (c.charge ∙ ap (λ n. n + length ks) h.paid ∙ omega arith)
 
@@ -216,18 +225,19 @@ module _ {K V O T : Type 0} (leq : T → T → Bool) (lub : T → T → T) (latt
 
     -- ---- all together
 
-    old_same : old_steps (continued run t delta made) ≡ old_steps run
+    old_same : old_steps (continued run t delta made (new.charge - old.charge)) ≡ old_steps run
     old_same = take-append-le run.before run.steps (last ∷ []) h.sealed
 
-    new_more : new_steps (continued run t delta made) ≡ new_steps run ++ last ∷ []
+    new_more : new_steps (continued run t delta made (new.charge - old.charge)) ≡ new_steps run ++ last ∷ []
     new_more = drop-append-le run.before run.steps (last ∷ []) h.sealed
 
     above_all : Every (λ s. IsTrue (leq old.seal s)) (times_of (new_steps run ++ last ∷ []))
     above_all = rw (times_of-append (new_steps run) (last ∷ [])) (Every-append (λ s. IsTrue (leq old.seal s)) (times_of (new_steps run)) (t ∷ []) h.above (over_seal, tt))
 
-    pub advance_keeps : Keeps leq lub tcmp kcmp vcmp gives new (continued run t delta made)
+    pub advance_keeps : Keeps leq lub tcmp kcmp vcmp gives new (continued run t delta made (new.charge - old.charge))
     advance_keeps = record {
       sealed = rw (length-append run.steps (last ∷ [])) (let n = h.sealed in omega (arith, n));
+      each = rw (c.seal, old_same, new_more) each_now;
       paid = rw (c.seal, old_same, new_more) paid_now;
       above = rw (c.seal, new_more) above_all;
       fed = λ k u ws over m. fed_now k u ws (rw (← c.seal) over) m;
@@ -238,8 +248,8 @@ module _ {K V O T : Type 0} (leq : T → T → Bool) (lub : T → T → T) (latt
 
   -- ---- a step that is fed nothing where nothing is due
 
-  pub idle_keeps : (store : Store K V O T) (run : Run T (K × V) (K × O)) (t : T) → Keeps leq lub tcmp kcmp vcmp gives store run → NoneAbove leq t (times_of run.steps) → IsTrue (leq store.seal t) → ((k : K) (d : T) → store.Due k d → leq d t ≡ false) → Keeps leq lub tcmp kcmp vcmp gives store (continued run t [] [])
-  idle_keeps store run t h later over_seal none = advance_keeps store store run h t [] [] [] (record {
+  pub idle_keeps : (store : Store K V O T) (run : Run T (K × V) (K × O)) (t : T) → Keeps leq lub tcmp kcmp vcmp gives store run → NoneAbove leq t (times_of run.steps) → IsTrue (leq store.seal t) → ((k : K) (d : T) → store.Due k d → leq d t ≡ false) → Keeps leq lub tcmp kcmp vcmp gives store (continued run t [] [] 0)
+  idle_keeps store run t h later over_seal none = subst (λ n. Keeps leq lub tcmp kcmp vcmp gives store (continued run t [] [] n)) (no_rise store.charge) (advance_keeps store store run h t [] [] [] (record {
     seal = refl;
     charge = omega arith;
     fed = λ k u ws m. (ws, m, Alike-is (nothing_if (leq t u) ws));
@@ -258,13 +268,14 @@ module _ {K V O T : Type 0} (leq : T → T → Bool) (lub : T → T → T) (latt
     due_kept = λ k d m. inr m;
     due_new = λ k x m. absurd m;
     due_only = λ k d m. ((λ e. absurd_bool (leq d t) (none k d m) (subst (λ v. IsTrue (leq d v)) e (lattice.reflexive d))), inl m);
-  }) later over_seal (λ k d m low. absurd (absurd_bool (leq d t) (none k d m) low))
+  }) later over_seal (λ k d m low. absurd (absurd_bool (leq d t) (none k d m) low)))
 
   -- ---- a seal, at which nothing is due
 
   pub close_keeps : (old new : Store K V O T) (run : Run T (K × V) (K × O)) (f : T) → Keeps leq lub tcmp kcmp vcmp gives old run → Closes leq lub tcmp kcmp vcmp old new run.steps f → ((k : K) (d : T) → old.Due k d → ⊥) → IsTrue (leq old.seal f) → Keeps leq lub tcmp kcmp vcmp gives new (sealed run old.charge)
   close_keeps old new run f h c none up = record {
     sealed = omega arith;
+    each = rw (drop-all (run.steps)) tt;
     paid = rw (drop-all (run.steps)) (c.charge ∙ omega arith);
     above = rw (drop-all (run.steps)) tt;
     fed = λ k u ws over m. fed_now k u ws (rw (← c.seal) over) m;
@@ -306,6 +317,7 @@ module _ {K V O T : Type 0} (leq : T → T → Bool) (lub : T → T → T) (latt
   pub empty_keeps : (store : Store K V O T) → IsEmpty store → Keeps leq lub tcmp kcmp vcmp gives store empty_run
   empty_keeps store e = record {
     sealed = omega arith;
+    each = tt;
     paid = e.charge;
     above = tt;
     fed = λ k t ws over m. e.fed k t ws m;

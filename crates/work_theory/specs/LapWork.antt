@@ -36,7 +36,7 @@ module _ {V O : Type 0} where
   lap-append t k [] rest = let e : k ≡ k + 0 = omega arith in ap (λ n. lap_steps t n rest) e
   lap-append t k (x ∷ done) rest =
       let e : suc k + length done ≡ k + length (x ∷ done) = omega arith in
-      ap (λ w. record { time = pair_of t k; fed = x.fed; made = x.made } ∷ w) (lap-append t (suc k) done rest ∙ ap (λ n. lap_steps t (suc k) done ++ lap_steps t n rest) e)
+      ap (λ w. record { time = pair_of t k; fed = x.fed; made = x.made; charge = x.charge } ∷ w) (lap-append t (suc k) done rest ∙ ap (λ n. lap_steps t (suc k) done ++ lap_steps t n rest) e)
 
   fed_in_front : (done rest : List (Turn V O)) (k : ℕ) → k < length done → fed_in (done ++ rest) k ≡ fed_in done k
   fed_in_front [] rest k h = absurd (omega arith)
@@ -53,11 +53,11 @@ full_in kcmp vcmp (x ∷ lap) (suc k) h = full_in kcmp vcmp lap k h.1
 module _ {K : Type 0} (kcmp : K → K → Ordering) (v : K) where
   abbrev key_turns : {V O : Type 0} → List (Turn (K × V) (K × O)) → List (Turn V O)
   key_turns [] = []
-  key_turns (x ∷ lap) = record { fed = key_part kcmp v x.fed; made = key_part kcmp v x.made } ∷ key_turns lap
+  key_turns (x ∷ lap) = record { fed = key_part kcmp v x.fed; made = key_part kcmp v x.made; charge = x.charge } ∷ key_turns lap
 
   key_lap : {T V O : Type 0} (t : T) (k : ℕ) (lap : List (Turn (K × V) (K × O))) → key_steps kcmp v (lap_steps t k lap) ≡ lap_steps t k (key_turns lap)
   key_lap t k [] = refl
-  key_lap t k (x ∷ lap) = ap (λ w. record { time = pair_of t k; fed = key_part kcmp v x.fed; made = key_part kcmp v x.made } ∷ w) (key_lap t (suc k) lap)
+  key_lap t k (x ∷ lap) = ap (λ w. record { time = pair_of t k; fed = key_part kcmp v x.fed; made = key_part kcmp v x.made; charge = x.charge } ∷ w) (key_lap t (suc k) lap)
 
   key_fed : {V O : Type 0} (lap : List (Turn (K × V) (K × O))) (k : ℕ) → fed_in (key_turns lap) k ≡ key_part kcmp v (fed_in lap k)
   key_fed [] k = refl
@@ -207,9 +207,9 @@ module _ {T K V O : Type 0} (leq : T → T → Bool) (lub : T → T → T) (latt
   charged_from : (done rest : List (Turn (K × V) (K × O))) → Apart nodes → done ++ rest ≡ lap → work_to (length done) + charged (pair_leq leq) (pair_lub lub) pcmp kcmp vcmp (pair_of p 0) before (lap_steps t 0 done) (lap_steps t (length done) rest) ≡ work_to (length done + length rest)
   charged_from done [] apart e = let k : length done + 0 ≡ length done = omega arith in rw k (omega arith)
   charged_from done (x ∷ rest) apart e =
-      let s : Step (Pair T Round) (K × V) (K × O) = record { time = pair_of t (length done); fed = x.fed; made = x.made } in
+      let s : Step (Pair T Round) (K × V) (K × O) = record { time = pair_of t (length done); fed = x.fed; made = x.made; charge = x.charge } in
       let zero_more : 0 + length done ≡ length done = omega arith in
-      let one : lap_steps t 0 done ++ s ∷ [] ≡ lap_steps t 0 (done ++ x ∷ []) = sym (lap-append t 0 done (x ∷ []) ∙ ap (λ n. lap_steps t 0 done ++ record { time = pair_of t n; fed = x.fed; made = x.made } ∷ []) zero_more) in
+      let one : lap_steps t 0 done ++ s ∷ [] ≡ lap_steps t 0 (done ++ x ∷ []) = sym (lap-append t 0 done (x ∷ []) ∙ ap (λ n. lap_steps t 0 done ++ record { time = pair_of t n; fed = x.fed; made = x.made; charge = x.charge } ∷ []) zero_more) in
       let long : length (done ++ x ∷ []) ≡ suc (length done) = length-append done (x ∷ []) ∙ omega arith in
       let all : (done ++ x ∷ []) ++ rest ≡ lap = append_assoc done (x ∷ []) rest ∙ e in
       let here : evaluations (pair_leq leq) (pair_lub lub) pcmp kcmp vcmp (pair_of p 0) (pair_of t (length done)) before (lap_steps t 0 done ++ s ∷ []) ≡ length (counted_nodes (length done)) = ap (λ w. evaluations (pair_leq leq) (pair_lub lub) pcmp kcmp vcmp (pair_of p 0) (pair_of t (length done)) before w) one ∙ evaluations_in (done ++ x ∷ []) rest (length done) apart all (sym long) in

@@ -11,15 +11,16 @@ use Rattle.loop_theory.specs.Loops.{pair_leq, pair_of}
 use Rattle.lone_work.specs.Items.{Item}
 use Rattle.work_theory.specs.Once.{once}
 
--- what a run was fed, and made, in one round of a lap
+-- what a run was fed, and made, in one round of a lap, and what it was charged
 pub record Turn (V O : Type 0) : Type 0 where
   pub fed : List (V × ℕ)
   pub made : List (O × ℕ)
+  pub charge : ℕ
 
 -- the steps of a lap at an outer time, from a round on
 abbrev pub lap_steps : {T V O : Type 0} → T → ℕ → List (Turn V O) → List (Step (Pair T Round) V O)
 lap_steps t k [] = []
-lap_steps t k (x ∷ lap) = record { time = pair_of t k; fed = x.fed; made = x.made } ∷ lap_steps t (suc k) lap
+lap_steps t k (x ∷ lap) = record { time = pair_of t k; fed = x.fed; made = x.made; charge = x.charge } ∷ lap_steps t (suc k) lap
 
 -- what a round was fed
 abbrev pub fed_in : {V O : Type 0} → List (Turn V O) → ℕ → List (V × ℕ)

@@ -1,4 +1,5 @@
 -- Round 0 of a lap.
+use Rattle.std.proofs.Common.{◌-◌}
 use Rattle.loop_theory.specs.LoopLaws.{seal_below}
 use Rattle.loop_theory.specs.Underway.{outer_above}
 use Rattle.diff_iterate.proofs.Dues.{due_first, outer_due_first}
@@ -15,7 +16,7 @@ pub step-requires-clause-seal : goal.step-requires-clause-seal
 step-requires-clause-seal g c = seal_below g.T.Time.leq (g.B.Operator.seal c.args.body.now) c.args.t 0 c.requires.level c.requires.seal
 
 pub returns-clause-lap : goal.returns-clause-lap
-returns-clause-lap g c = begun g.T.Time.leq (g.B.Operator.stands c.args.body.now) c.args.t (g.B.Operator.stands c.step.new.self) c.args.delta.now c.in_ok-moved.moved c.in_ok-made.made c.in_ok-gone.gone c.in_ok-change.change _ _ _ (λ run. c.in_ok-made.ensures.runs run) c.in_ok-moved.ensures c.in_ok-gone.ensures.value c.in_ok-change.ensures.alike c.requires.entries c.in_ok-push_round.ensures c.in_ok-push_round-2.ensures
+returns-clause-lap g c = begun g.T.Time.leq (g.B.Operator.stands c.args.body.now) c.args.t (g.B.Operator.stands c.step.new.self) c.args.delta.now c.in_ok-moved.moved c.in_ok-made.made c.in_ok-gone.gone c.in_ok-change.change _ _ _ (g.B.Operator.charge c.step.new.self - g.B.Operator.charge c.args.body.now) (λ run. c.in_ok-made.ensures.runs run) c.in_ok-moved.ensures c.in_ok-gone.ensures.value c.in_ok-change.ensures.alike c.requires.entries c.in_ok-push_round.ensures c.in_ok-push_round-2.ensures
 
 pub returns-clause-due : goal.returns-clause-due
 returns-clause-due g c = outer_due_first g.T.Time.leq c.args.t 0 (g.B.Operator.due c.args.body.now) (g.B.Operator.due c.step.new.self) c.in_ok-made.ensures.due

@@ -5,7 +5,7 @@ use Rattle.diff_iterate.proofs.lap.take_lap.Given as goal
 
 abbrev pub invariant-loop-round : goal.invariant-loop-round
 invariant-loop-round g l = record {
-  lap : Underway g.T.Time.leq (g.B.Operator.stands l.fn.body) (g.B.Operator.stands l.body) l.t l.delta l.round l.change l.entries.items;
+  lap : Underway g.T.Time.leq (g.B.Operator.stands l.fn.body) (g.B.Operator.stands l.body) l.t l.delta l.round l.change l.entries.items (g.B.Operator.charge l.body - g.B.Operator.charge l.fn.body);
   some : 0 < l.round;
   most : l.round ≤ l.rounds;
   due : Every (λ d. Member d (g.B.Operator.due l.fn.body) ⊎ IsTrue (g.T.Time.leq l.t d.outer)) (g.B.Operator.due l.body);

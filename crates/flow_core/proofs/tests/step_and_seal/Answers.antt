@@ -3,7 +3,7 @@ use Rattle.std.proofs.Common.{◌∙◌, Bool, List, [], ◌∷◌, inl, inr, re
 use Rattle.lattice_time.specs.Lattice.{IsLattice}
 use Rattle.flow_core.specs.Closing.{IsClosed}
 use Rattle.flow_core.specs.PartLaws.{lub_level}
-use Rattle.flow_core.specs.Runs.{Member, empty_run, continued}
+use Rattle.flow_core.specs.Runs.{Member, empty_run}
 use Rattle.flow_core.proofs.tests.step_and_seal.Goals as goal
 
 one_is_closed : {T : Type 0} {leq : T → T → Bool} {lub : T → T → T} → IsLattice leq lub → (t : T) → IsClosed lub (t ∷ [])
@@ -12,4 +12,4 @@ one_is_closed lattice t r s (inl e) (inr m) = absurd m
 one_is_closed lattice t r s (inr m) h = absurd m
 
 pub seal-requires-clause-due : goal.seal-requires-clause-due
-seal-requires-clause-due g c = c.settled.ensures.due (continued empty_run c.args.t c.args.delta.now c.in_ok-made.made) (c.in_ok-made.ensures.runs empty_run c.requires.is_new tt) (one_is_closed g.met.T.Time.lattice c.args.t)
+seal-requires-clause-due g c = c.settled.ensures.due _ (c.in_ok-made.ensures.runs empty_run c.requires.is_new tt) (one_is_closed g.met.T.Time.lattice c.args.t)

@@ -16,5 +16,6 @@ returns-clause-inside g c = rw (← c.second.ensures) (λ items reduce is run h.
     (body-inside g.T.Time.leq g.T.Time.lub g.met.T.Time.lattice g.T.Ord.cmp g.G.Key.Ord.cmp g.G.Value.Ord.cmp (g.I.Operator.apply c.args.body.now.first.inner) (g.I.Operator.seal c.args.body.now.first.inner) _ (g.I.Operator.due c.args.body.now.first.inner) _ _ (g.I.Operator.stands c.args.body.now.first.inner) _
     (g.met.I.Operator.answers c.args.body.now.first.inner)
     (λ r s. none_more _ _ (c.evaluations.ensures.counted r s))
+    c.evaluations.ensures.each
     c.evaluations.ensures.fed
     run h.0 h.1))

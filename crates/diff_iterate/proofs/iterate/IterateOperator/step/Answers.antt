@@ -1,5 +1,5 @@
 -- A lap of the body.
-use Rattle.std.proofs.Common.{◌≡◌, IsTrue, ap, subst, ◌∙◌}
+use Rattle.std.proofs.Common.{◌≡◌, ◌-◌, IsTrue, ap, subst, ◌∙◌}
 use Rattle.flow_core.specs.Runs.{NoneAbove, times_of}
 use Rattle.loop_theory.specs.Loops.{loop_apply}
 use Rattle.loop_theory.specs.TimeLaws.{laps_above}
@@ -24,7 +24,7 @@ take_lap-made-requires-clause-live g c = or_second c.args.self.now.broken (g.B.O
 
 pub returns-clause-runs : goal.returns-clause-runs
 returns-clause-runs g c = IfOk-and_OnOk c.take_lap-made.result _ _ _
-    (λ made lap seal run h above. (laps_continued g.T.Time.leq (g.B.Operator.stands c.args.self.now.body) (g.B.Operator.stands c.take_lap-made.new.body) c.args.self.now.rounds run c.args.t c.args.delta.now lap.0 made lap.1 h.0 above, ap (λ v. v.inner.0) seal ∙ h.1))
+    (λ made lap seal run h above. (laps_continued g.T.Time.leq (g.B.Operator.stands c.args.self.now.body) (g.B.Operator.stands c.take_lap-made.new.body) c.args.self.now.rounds run c.args.t c.args.delta.now lap.0 made (g.B.Operator.charge c.take_lap-made.new.body - g.B.Operator.charge c.args.self.now.body) lap.1 h.0 above, ap (λ v. v.inner.0) seal ∙ h.1))
     c.take_lap-made.ensures.lap c.take_lap-made.ensures.seal
 
 pub returns-clause-due : goal.returns-clause-due

@@ -1,4 +1,5 @@
 -- The operator inside is stepped.
+use Rattle.std.proofs.Common.{◌-◌}
 use Rattle.weighted.specs.Alike.{Alike, Alike-refl, Alike-trans, Alike-append}
 use Rattle.flow_core.specs.Expanded.{expanded}
 use Rattle.flow_core.specs.Routes.{routes_above, routes_continued}
@@ -18,5 +19,5 @@ returns-clause-runs g c =
     let passed : Alike c.in_ok-passed.passed (past c.args.delta.now) = rw c.in_ok-passed.was at c.both_ways-ways.ensures.past in
     let handed : Alike c.in_ok-passed.handed (into c.args.delta.now) = rw c.in_ok-passed.was at c.both_ways-ways.ensures.into in
     IfOk-imply c.add-made.result _ _
-    (λ made alike run h above. routes_continued past into g.T.Time.leq (g.O.Operator.stands c.args.self.now.inner) (g.O.Operator.stands c.step.new.self) run (record { time = c.args.t; fed = c.args.delta.now; handed = c.in_ok-passed.handed; given = c.in_ok-given.given; made = made }) (record { handed = handed; made = Alike-trans alike (Alike-append passed (Alike-refl c.in_ok-given.given)) }) (λ r. c.in_ok-given.ensures.runs r) h above)
+    (λ made alike run h above. routes_continued past into g.T.Time.leq (g.O.Operator.stands c.args.self.now.inner) (g.O.Operator.stands c.step.new.self) run (record { time = c.args.t; fed = c.args.delta.now; handed = c.in_ok-passed.handed; given = c.in_ok-given.given; made = made; charge = g.O.Operator.charge c.step.new.self - g.O.Operator.charge c.args.self.now.inner }) (record { handed = handed; made = Alike-trans alike (Alike-append passed (Alike-refl c.in_ok-given.given)) }) (λ r. c.in_ok-given.ensures.runs r) h above)
     c.add-made.ensures.alike

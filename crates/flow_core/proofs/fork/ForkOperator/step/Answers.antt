@@ -1,8 +1,9 @@
 -- Both parts are stepped, with the same.
-use Rattle.std.proofs.Common.{◌≡◌, IsTrue, sym, ◌∙◌, refl}
+use Rattle.std.proofs.Common.{◌≡◌, ◌-◌, IsTrue, sym, subst, ◌∙◌, refl}
 use Rattle.flow_core.specs.Lists.{Every-append_front, Every-append_back, due_both}
-use Rattle.flow_core.specs.Parts.{branch_whole, branch_first, branch_second}
-use Rattle.flow_core.specs.PartLaws.{parts_above_first, parts_above_second, parts_continued}
+use Rattle.flow_core.specs.Runs.{continued}
+use Rattle.flow_core.specs.Parts.{StandsByBranches, both_sides, branch_whole, branch_first, branch_second}
+use Rattle.flow_core.specs.PartLaws.{parts_above_first, parts_above_second, parts_continued, both_rise}
 use Rattle.flow_core.proofs.Outcomes.{IfOk-imply, OnOk-any}
 use Rattle.flow_core.proofs.fork.ForkOperator.step.Goals as goal
 
@@ -26,7 +27,7 @@ step-requires-2-clause-due g c = Every-append_back (λ d. IsTrue (g.T.Time.leq d
 
 pub returns-clause-runs : goal.returns-clause-runs
 returns-clause-runs g c = IfOk-imply c.join_sides-made.result _ _
-    (λ made is run h above. rw is (parts_continued branch_whole branch_first branch_second (λ _. refl) (λ _. refl) g.T.Time.leq (g.A.Operator.stands c.args.self.now.first) (g.A.Operator.stands c.step.new.self) (g.B.Operator.stands c.args.self.now.second) (g.B.Operator.stands c.step-2.new.self) run (record { time = c.args.t; fed = c.args.delta.now; left = c.in_ok-left.left; right = c.in_ok-right.right }) (λ r. c.in_ok-left.ensures.runs r) (λ r. c.in_ok-right.ensures.runs r) h.0 above, c.in_ok-right.ensures.seal ∙ h.1 ∙ sym c.in_ok-left.ensures.seal))
+    (λ made is run h above. rw is (subst (λ n. StandsByBranches (g.A.Operator.stands c.step.new.self) (g.B.Operator.stands c.step-2.new.self) (continued run c.args.t c.args.delta.now (both_sides c.in_ok-left.left c.in_ok-right.right) n)) (both_rise (g.A.Operator.charge c.args.self.now.first) (g.A.Operator.charge c.step.new.self) (g.B.Operator.charge c.args.self.now.second) (g.B.Operator.charge c.step-2.new.self) c.step.ensures.charge c.step-2.ensures.charge) (parts_continued branch_whole branch_first branch_second (λ _. refl) (λ _. refl) g.T.Time.leq (g.A.Operator.stands c.args.self.now.first) (g.A.Operator.stands c.step.new.self) (g.B.Operator.stands c.args.self.now.second) (g.B.Operator.stands c.step-2.new.self) run (record { time = c.args.t; fed = c.args.delta.now; left = c.in_ok-left.left; right = c.in_ok-right.right; first_charge = g.A.Operator.charge c.step.new.self - g.A.Operator.charge c.args.self.now.first; second_charge = g.B.Operator.charge c.step-2.new.self - g.B.Operator.charge c.args.self.now.second }) (λ r. c.in_ok-left.ensures.runs r) (λ r. c.in_ok-right.ensures.runs r) h.0 above), c.in_ok-right.ensures.seal ∙ h.1 ∙ sym c.in_ok-left.ensures.seal))
     c.join_sides-made.ensures
 
 pub returns-clause-due : goal.returns-clause-due
