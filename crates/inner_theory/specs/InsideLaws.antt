@@ -34,6 +34,10 @@ links_free : {T I M O : Type 0} (links : List (Link T I M O)) → Every (λ s. s
 links_free [] h = refl
 links_free (l ∷ ls) h = ap (λ c. c ∷ charges_of (map link_second ls)) (sym (none_more l.first_charge l.second_charge h.0)) ∙ ap (λ cs. (l.first_charge + l.second_charge) ∷ cs) (links_free ls h.1)
 
+charges_of-append : {T I O : Type 0} (xs ys : List (Step T I O)) → charges_of (xs ++ ys) ≡ charges_of xs ++ charges_of ys
+charges_of-append [] ys = refl
+charges_of-append (s ∷ ss) ys = ap (λ cs. s.charge ∷ cs) (charges_of-append ss ys)
+
 no_base : (a b c d : ℕ) → a + b ≡ c → a ≡ 0 → b ≡ c
 no_base a b c d h k = omega arith
 
@@ -83,10 +87,6 @@ module _ {T F X : Type 0} where
       ∙ ap (λ ts. rounds_from l.time 0 rounds ++ ts) (laps_times rounds ls h.1)
 
   -- ---- what a lap is charged is the sum of what its rounds are
-
-  charges_of-append : {I O : Type 0} (xs ys : List (Step T I O)) → charges_of (xs ++ ys) ≡ charges_of xs ++ charges_of ys
-  charges_of-append [] ys = refl
-  charges_of-append (s ∷ ss) ys = ap (λ cs. s.charge ∷ cs) (charges_of-append ss ys)
 
   round_charges : (t : T) (k : ℕ) (es : List (Exchange F X)) → length (charges_of (steps_from t k es)) ≡ length es
   round_charges t k [] = refl

@@ -15,7 +15,8 @@ use surge_outside::{Counted, Record};
 
 /// Does nothing, and tells contracts of a body by the functions of its parts, which a step and a seal leave as they are:
 /// its function is the reduce's of the quiet part's; and the run of the reduce takes its steps with the whole, it was
-/// fed what the part makes of what the whole was fed, and its evaluations are all that is charged. It takes no memory.
+/// fed what the part makes of what the whole was fed, each of its steps was charged what the whole's was, since the seal
+/// the keys that are evaluated at it, and these are all that is charged. It takes no memory.
 pub fn body_inside<
     T: Time,
     U: Counted,
@@ -31,7 +32,8 @@ pub fn body_inside<
 /// Does nothing, and tells contracts of a loop in hand, and of its body beside it, by the functions of its parts, which a
 /// step and a seal leave as they are, the run of the reduce at the end of the body, behind a quiet part, where the body
 /// stands for a run of such a reduce: it takes a step a round of each step of the whole; in each round it was fed what
-/// the body's part makes of what so many applications give; and its evaluations are all that is charged. It takes no
+/// the body's part makes of what so many applications give; each step of the whole was charged what its rounds were, and
+/// each of these since the seal the keys that are evaluated at it; and these are all that is charged. It takes no
 /// memory.
 pub fn loop_inside<
     T: Time,

@@ -21,9 +21,11 @@ use vertex_lang::{Arc, Updater};
 /// Does nothing, and tells contracts of a dataflow in hand, whose parts have the functions of a program over a graph
 /// (as a new one's have, and a step and a seal leave them), the run of the reduce inside it, for each run for which it
 /// stands: that it takes a step a round of each step, and is sealed at round 0 where the whole is sealed; that where
-/// what was fed is a view each node was fed its inputs in each round; and that its evaluations are all that is charged.
-/// So where it was sealed at one view and then stepped once to another, what it was charged since the seal is the work
-/// of that view behind the other one. It takes no memory.
+/// what was fed is a view each node was fed its inputs in each round; that each step of the whole was charged what its
+/// rounds were, and each of these since the seal the nodes that are evaluated at it; and that these are all that is
+/// charged. So a step at a time adds the pairs of a node and a round that are evaluated there; and where it was sealed
+/// at one view and then stepped once to another, what it was charged since the seal is the work of that view behind the
+/// other one. It takes no memory.
 pub fn inner_run<'g, T: Time, U: Updater>(flow: &VertexFlow<'g, T, U>)
     ensures inner { let it = ⟦<VertexFlow<'g, T, U> as Operator<T, U>>⟧ in (p : Program) (graph : GraphData) (rounds : ℕ) → flow_parts ⟦<NodeNo as Ord>⟧.cmp ⟦<Arc as Ord>⟧.cmp ⟦<NodeItem as Ord>⟧.cmp U.answer p graph rounds ≡ it.kept flow.now → (run : Run T FlowInput (Round × (NodeNo × Val))) → it.stands flow.now run → InnerRun T.leq T.lub ⟦<Pair<T, Round> as Ord>⟧.cmp ⟦<NodeNo as Ord>⟧.cmp ⟦<NodeItem as Ord>⟧.cmp U.answer p graph rounds (it.seal flow.now) (it.due flow.now) (it.charge flow.now) run }
     ensures work { let it = ⟦<VertexFlow<'g, T, U> as Operator<T, U>>⟧ in (p : Program) (graph : GraphData) (rounds : ℕ) → flow_parts ⟦<NodeNo as Ord>⟧.cmp ⟦<Arc as Ord>⟧.cmp ⟦<NodeItem as Ord>⟧.cmp U.answer p graph rounds ≡ it.kept flow.now → (run : Run T FlowInput (Round × (NodeNo × Val))) → it.stands flow.now run → ChargesWork T.leq U.answer p graph rounds (it.seal flow.now) (it.due flow.now) (it.charge flow.now) run }
