@@ -1,6 +1,6 @@
 -- What is kept of a view's arcs and of a round's values gives what a node gets.
-use Rattle.std.proofs.Common.{◌≡◌, ◌∙◌, ◌<◌, ◌≤◌, ◌+◌, ◌∷◌, [], sym, ap, subst, refl, ℕ, ℤ, Bool, true, false, List, length, get_or, map, filter, arith, inl, inr}
-use Rattle.std.specs.Prelude.{All, ◌==◌, if◌then◌else◌}
+use Rattle.std.proofs.Common.{◌≡◌, ◌∙◌, ◌<◌, ◌≤◌, ◌+◌, ◌∷◌, [], sym, ap, subst, refl, ℕ, ℤ, Bool, true, false, List, length, get_or, map, filter, Option, Some, Vec, Global, arith, inl, inr}
+use Rattle.std.specs.Prelude.{All, ◌==◌, if◌then◌else◌, IfSome}
 use Rattle.std.proofs.lemmas.Bool.{cases_Bool}
 use Rattle.std.proofs.lemmas.List.{length-map}
 use Rattle.std.proofs.lemmas.List.Elements.{All-head, All-tail, All-weaker, All-filter, All-map}
@@ -8,6 +8,7 @@ use Rattle.std.proofs.lemmas.List.Sums.{length-filter, count_by-le-length}
 use Rattle.std.proofs.lemmas.Simd.{map-map}
 use Rattle.graph_model.specs.declared.number.NodeNo.{NodeNo}
 use Rattle.graph_model.specs.declared.value.Val.{Val}
+use Rattle.graph_model.specs.declared.value.Val.TheVariants.{Nil}
 use Rattle.graph_model.specs.GraphData.{GraphData}
 use Rattle.vertex_lang.specs.declared.arc.Arc.{Arc}
 use Rattle.vertex_lang.specs.declared.program.Program.{Program}
@@ -16,14 +17,16 @@ use Rattle.vertex_lang.specs.Expressions.{Answer, sent_by, send_words, edge_valu
 use Rattle.vertex_lang.specs.Rounds.{value_at, carried, lone}
 use Rattle.vertex_lang.specs.Values.{added}
 use Rattle.lone_work.specs.Inputs.{got_values}
+use Rattle.round_kernel.specs.declared.feed.Feed.{Feed}
+use Rattle.round_kernel.specs.declared.feed.Feed.TheVariants as feeds
 use Rattle.round_kernel.specs.declared.history.Change.{Change}
 use Rattle.round_kernel.specs.declared.live.Live.{Live}
 use Rattle.round_kernel.specs.declared.live.Link.{Link}
-use Rattle.round_kernel.specs.Feeds.{HasMessages, HasValues}
+use Rattle.round_kernel.specs.Feeds.{IsFed, HasMessages, HasValues, AreTails, AreLinks}
 use Rattle.round_kernel.specs.Histories.{is_changed, HasChanges}
 use Rattle.round_kernel.specs.Links.{tail_of, link_of, sent_over}
 use Rattle.round_kernel.specs.Lives.{AreLive, kept_for}
-use Rattle.round_kernel.specs.Numbers.{number_at, value_in, code_of, sent_from, AreNumbers, AreRenewed, AreProper, IsStep}
+use Rattle.round_kernel.specs.Numbers.{number_at, value_in, code_of, sent_from, sent_in_view, sent_with, AreNumbers, AreRenewed, IsStep}
 use Rattle.round_kernel.specs.Sides.{in_view, arcs_in, row_of, AreSent, IsRound}
 use Rattle.round_kernel.specs.Telling.{sent_in}
 use Rattle.round_kernel.proofs.Filling.{unchanged-at}
@@ -53,6 +56,14 @@ same-cons v w vs ws e h = ap (λ (x : Val). filter is_sent (x ∷ vs)) e ∙ wit
     | inr f ↦ rw f h
   ]
 
+-- where what an arc brings is none unless a test holds, those at which it holds are all that counts
+pub gated : (f : Arc → Bool) (b : Arc → Val) (xs : List Arc) → filter is_sent (map (λ a. if f a then b a else Nil) xs) ≡ filter is_sent (map b (filter f xs))
+gated f b [] = refl
+gated f b (a ∷ xs) = elim (cases_Bool (f a)) [
+  | inl t ↦ rw t (same-cons (b a) (b a) (map (λ c. if f c then b c else Nil) xs) (map b (filter f xs)) refl (gated f b xs))
+  | inr e ↦ rw e (gated f b xs)
+]
+
 module _ (f h : Arc → Bool) (b c : Arc → Val) where
   pub chosen-both : (xs : List Arc) → All (λ a. b a ≡ c a) xs → filter is_sent (map b (filter f (filter h xs))) ≡ filter is_sent (map c (filter h (filter f xs)))
   chosen-both [] same = refl
@@ -76,26 +87,55 @@ module _ (answer : Answer) (p : Program) (graph : GraphData) (all : List Arc) (e
   carries : Arc → Val
   carries = carried p graph (arcs_in all edges) (lone answer p graph (arcs_in all edges) r)
 
-  pub by-messages : (live : Live NodeNo) (numbers : List ℤ) (row : List NodeNo) → HasMessages answer p graph all edges r live numbers → row ≡ kept_for live.items.items live.ends.items v
+  -- an arc brings the number of its tail
+  carries-number : (numbers : List ℤ) → HasMessages answer p graph all edges r numbers → All (λ a. number_at numbers a.tail.0 ≡ carries a) all
+  unfolding carries
+  carries-number numbers has = All-weaker (IsArc graph) (λ a. number_at numbers a.tail.0 ≡ carries a) (λ a arc. has.each a.tail.0 a.edge.0 arc.tail) all arcs
+
+  pub by-messages : (numbers : List ℤ) (row : List Arc) → HasMessages answer p graph all edges r numbers → row ≡ row_of all v
+      → sent_in_view numbers edges row ≡ got_values answer p graph (arcs_in all edges) v r
+  unfolding carries
+  by-messages numbers row has e =
+      let brought : Arc → Val = λ a. number_at numbers a.tail.0 in
+      ap (λ (xs : List Arc). sent_in_view numbers edges xs) e
+      ∙ gated (in_view edges) brought (row_of all v)
+      ∙ chosen-both (in_view edges) (λ (a : Arc). a.head.0 == v) brought carries all (carries-number numbers has)
+
+  pub by-tails : (live : Live NodeNo) (numbers : List ℤ) (row : List NodeNo) → HasMessages answer p graph all edges r numbers → AreTails graph all edges live → row ≡ kept_for live.items.items live.ends.items v
       → sent_from numbers row ≡ got_values answer p graph (arcs_in all edges) v r
   unfolding carries
-  by-messages live numbers row has e =
+  by-tails live numbers row has rows e =
       let brought : Arc → Val = λ a. number_at numbers a.tail.0 in
-      ap (λ (xs : List NodeNo). sent_from numbers xs) (row-is tail_of all edges (length graph.ids) live has.rows v low row e)
+      ap (λ (xs : List NodeNo). sent_from numbers xs) (row-is tail_of all edges (length graph.ids) live rows v low row e)
       ∙ ap (λ (ms : List Val). filter is_sent ms) (map-map (λ (t : NodeNo). number_at numbers t.0) tail_of (filter (in_view edges) (row_of all v)))
-      ∙ chosen-both (in_view edges) (λ (a : Arc). a.head.0 == v) brought carries all (All-weaker (IsArc graph) (λ a. brought a ≡ carries a) (λ a arc. has.each a.tail.0 a.edge.0 arc.tail) all arcs)
+      ∙ chosen-both (in_view edges) (λ (a : Arc). a.head.0 == v) brought carries all (carries-number numbers has)
 
-  pub by-values : (column : ℕ) (live : Live Link) (numbers : List ℤ) (row : List Link) → HasValues answer p graph all edges r column live numbers → row ≡ kept_for live.items.items live.ends.items v
+  -- an arc brings the number of its tail and the property added
+  with-property : (column : ℕ) (numbers : List ℤ) → HasValues answer p graph all edges r column numbers → (a : Arc) → IsArc graph a
+      → added true (number_at numbers a.tail.0) (edge_value graph a.edge.0 column) ≡ carries a
+  unfolding carries
+  with-property column numbers has a arc =
+      ap (λ (x : Val). added true x (edge_value graph a.edge.0 column)) (has.each a.tail.0 arc.tail)
+      ∙ sym (has.step graph a.tail.0 (value_at (lone answer p graph (arcs_in all edges) r) a.tail.0) (outdeg (arcs_in all edges) a.tail.0) a.edge.0)
+
+  pub by-values : (column : ℕ) (numbers : List ℤ) (row : List Arc) → HasValues answer p graph all edges r column numbers → row ≡ row_of all v
+      → sent_with graph column numbers edges row ≡ got_values answer p graph (arcs_in all edges) v r
+  unfolding carries
+  by-values column numbers row has e =
+      let brought : Arc → Val = λ a. added true (number_at numbers a.tail.0) (edge_value graph a.edge.0 column) in
+      ap (λ (xs : List Arc). sent_with graph column numbers edges xs) e
+      ∙ gated (in_view edges) brought (row_of all v)
+      ∙ chosen-both (in_view edges) (λ (a : Arc). a.head.0 == v) brought carries all (All-weaker (IsArc graph) (λ a. brought a ≡ carries a) (with-property column numbers has) all arcs)
+
+  pub by-links : (column : ℕ) (live : Live Link) (numbers : List ℤ) (row : List Link) → HasValues answer p graph all edges r column numbers → AreLinks graph all edges column live → row ≡ kept_for live.items.items live.ends.items v
       → sent_over numbers row ≡ got_values answer p graph (arcs_in all edges) v r
   unfolding carries
-  by-values column live numbers row has e =
+  by-links column live numbers row has links e =
       let brought : Arc → Val = λ a. added true (number_at numbers a.tail.0) (value_in (code_of (edge_value graph a.edge.0 column))) in
-      ap (λ (xs : List Link). sent_over numbers xs) (row-is (link_of graph column) all edges (length graph.ids) live has.rows v low row e)
+      ap (λ (xs : List Link). sent_over numbers xs) (row-is (link_of graph column) all edges (length graph.ids) live links.rows v low row e)
       ∙ ap (λ (ms : List Val). filter is_sent ms) (map-map (λ (l : Link). added true (number_at numbers l.tail.0) (value_in l.step)) (link_of graph column) (filter (in_view edges) (row_of all v)))
       ∙ chosen-both (in_view edges) (λ (a : Arc). a.head.0 == v) brought carries all (All-weaker (IsArc graph) (λ a. brought a ≡ carries a) (λ a arc.
-      ap (λ (x : Val). added true x (value_in (code_of (edge_value graph a.edge.0 column)))) (has.each a.tail.0 arc.tail)
-      ∙ ap (λ (x : Val). added true (value_at (lone answer p graph (arcs_in all edges) r) a.tail.0) x) (has.proper a.edge.0 arc.edge)
-      ∙ sym (has.step graph a.tail.0 (value_at (lone answer p graph (arcs_in all edges) r) a.tail.0) (outdeg (arcs_in all edges) a.tail.0) a.edge.0)) all arcs)
+      ap (λ (x : Val). added true (number_at numbers a.tail.0) x) (links.proper a.edge.0 arc.edge) ∙ with-property column numbers has a arc) all arcs)
 
 -- ---- from round to round
 
@@ -112,19 +152,16 @@ module _ (answer : Answer) (p : Program) (graph : GraphData) (all : List Arc) (e
   pub sent-is : (alike : Bool) (sent : List Val) (u e : ℕ) → AreSent alike p graph degrees values sent → alike ≡ true → u < length graph.ids → value_at sent u ≡ sent_in answer p graph (arcs_in all edges) r u e
   sent-is alike sent u e has on low = (has on).1 u e low ∙ sent-under u e low
 
-  pub messages-begin : (alike : Bool) (sent : List Val) (live : Live NodeNo) (numbers : List ℤ) → AreSent alike p graph degrees values sent → alike ≡ true → AreNumbers sent numbers → AreLive tail_of all edges (length graph.ids) live
-      → HasMessages answer p graph all edges r live numbers
-  messages-begin alike sent live numbers has on are rows = record {
-    rows = rows;
+  pub messages-begin : (alike : Bool) (sent : List Val) (numbers : List ℤ) → AreSent alike p graph degrees values sent → alike ≡ true → AreNumbers sent numbers
+      → HasMessages answer p graph all edges r numbers
+  messages-begin alike sent numbers has on are = record {
     size = are.size ∙ (has on).0;
     each = λ u e low. are.each u (omega (arith, low, (has on).0)) ∙ sent-is alike sent u e has on low;
   }
 
-  pub values-begin : (column : ℕ) (live : Live Link) (numbers : List ℤ) → AreNumbers values numbers → IsStep p column → AreProper graph column → AreLive (link_of graph column) all edges (length graph.ids) live
-      → HasValues answer p graph all edges r column live numbers
-  values-begin column live numbers are step proper rows = record {
-    rows = rows;
-    proper = proper;
+  pub values-begin : (column : ℕ) (numbers : List ℤ) → AreNumbers values numbers → IsStep p column
+      → HasValues answer p graph all edges r column numbers
+  values-begin column numbers are step = record {
     step = step;
     size = are.size ∙ is.sized.values_size;
     each = λ u low. are.each u (omega (arith, low, is.sized.values_size)) ∙ ap (λ (vs : List Val). value_at vs u) is.values_are;
@@ -146,10 +183,9 @@ module _ (answer : Answer) (p : Program) (graph : GraphData) (all : List Arc) (e
   abbrev was : List Val
   was = lone answer p graph (arcs_in all edges) r
 
-  pub messages-next : (alike : Bool) (sent : List Val) (live : Live NodeNo) (before after : List ℤ) → AreSent alike p graph degrees values sent → alike ≡ true → AreRenewed sent cs before after
-      → HasMessages answer p graph all edges r live before → HasMessages answer p graph all edges (r + 1) live after
-  messages-next alike sent live before after kept on new had = record {
-    rows = had.rows;
+  pub messages-next : (alike : Bool) (sent : List Val) (before after : List ℤ) → AreSent alike p graph degrees values sent → alike ≡ true → AreRenewed sent cs before after
+      → HasMessages answer p graph all edges r before → HasMessages answer p graph all edges (r + 1) after
+  messages-next alike sent before after kept on new had = record {
     size = new.size ∙ had.size;
     each = λ u e low. new.each u (omega (arith, low, had.size)) ∙ (elim (cases_Bool (is_changed u cs)) [
       | inl t ↦ picked (is_changed u cs) (value_at sent u) (number_at before u) t ∙ sent-is answer p graph all edges degrees values (r + 1) is alike sent u e kept on low
@@ -158,11 +194,9 @@ module _ (answer : Answer) (p : Program) (graph : GraphData) (all : List Arc) (e
     ]);
   }
 
-  pub values-next : (column : ℕ) (live : Live Link) (before after : List ℤ) → AreRenewed values cs before after
-      → HasValues answer p graph all edges r column live before → HasValues answer p graph all edges (r + 1) column live after
-  values-next column live before after new had = record {
-    rows = had.rows;
-    proper = had.proper;
+  pub values-next : (column : ℕ) (before after : List ℤ) → AreRenewed values cs before after
+      → HasValues answer p graph all edges r column before → HasValues answer p graph all edges (r + 1) column after
+  values-next column before after new had = record {
     step = had.step;
     size = new.size ∙ had.size;
     each = λ u low. new.each u (omega (arith, low, had.size)) ∙ (elim (cases_Bool (is_changed u cs)) [
@@ -175,3 +209,18 @@ module _ (answer : Answer) (p : Program) (graph : GraphData) (all : List Arc) (e
 pub renewed-as : (values vs : List Val) (cs : List Change) (before bs after zs : List ℤ) → vs ≡ values → bs ≡ before → after ≡ zs → AreRenewed vs cs bs zs → AreRenewed values cs before after
 renewed-as values vs cs before bs after zs ev eb ea h =
     subst (λ (xs : List Val). AreRenewed xs cs before after) ev (subst (λ (xs : List ℤ). AreRenewed vs cs xs after) eb (subst (λ (xs : List ℤ). AreRenewed vs cs bs xs) (sym ea) h))
+
+-- ---- what is kept
+
+module _ (answer : Answer) (p : Program) (graph : GraphData) (all : List Arc) (edges : List Bool) (r : ℕ) (feed : Feed) (fed : IsFed answer p graph all edges r feed) where
+  pub fed-messages : (numbers : Vec ℤ Global) (live : Option (Live NodeNo)) → feed ≡ feeds.Messages numbers live → HasMessages answer p graph all edges r numbers.items
+  fed-messages numbers live e = (subst (λ (f : Feed). IsFed answer p graph all edges r f) e fed).0
+
+  pub fed-tails : (numbers : Vec ℤ Global) (live : Option (Live NodeNo)) (tails : Live NodeNo) → feed ≡ feeds.Messages numbers live → live ≡ Some tails → AreTails graph all edges tails
+  fed-tails numbers live tails e is = subst (λ (o : Option (Live NodeNo)). IfSome o (AreTails graph all edges)) is (subst (λ (f : Feed). IsFed answer p graph all edges r f) e fed).1
+
+  pub fed-values : (column : ℕ) (numbers : Vec ℤ Global) (live : Option (Live Link)) → feed ≡ feeds.Steps column numbers live → HasValues answer p graph all edges r column numbers.items
+  fed-values column numbers live e = (subst (λ (f : Feed). IsFed answer p graph all edges r f) e fed).0
+
+  pub fed-links : (column : ℕ) (numbers : Vec ℤ Global) (live : Option (Live Link)) (links : Live Link) → feed ≡ feeds.Steps column numbers live → live ≡ Some links → AreLinks graph all edges column links
+  fed-links column numbers live links e is = subst (λ (o : Option (Live Link)). IfSome o (AreLinks graph all edges column)) is (subst (λ (f : Feed). IsFed answer p graph all edges r f) e fed).1

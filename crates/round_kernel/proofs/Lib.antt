@@ -3,6 +3,7 @@ pub mod Brought
 pub mod Visits
 pub mod Waiting
 pub mod Calm
+pub mod Chaining
 pub mod Changing
 pub mod Visiting
 pub mod Filling

@@ -1,5 +1,5 @@
 -- What is kept of the arcs of a view and of the values of a round, so that a node's messages are found fast.
-use Rattle.std.specs.Prelude.{◌≡◌, ◌<◌, ⊤, ℕ, ℤ, Bool, List, length}
+use Rattle.std.specs.Prelude.{◌≡◌, ◌<◌, ⊤, ℕ, ℤ, Bool, List, length, IfSome}
 use Rattle.graph_model.specs.declared.number.NodeNo.{NodeNo}
 use Rattle.graph_model.specs.GraphData.{GraphData}
 use Rattle.vertex_lang.specs.declared.arc.Arc.{Arc}
@@ -19,23 +19,29 @@ use Rattle.round_kernel.specs.Telling.{sent_in}
 
 module _ (answer : Answer) (p : Program) (graph : GraphData) (all : List Arc) (edges : List Bool) (r : ℕ) where
   -- the numbers are those of the messages of the round, which are the same along all arcs that leave a node
-  pub record HasMessages (live : Live NodeNo) (numbers : List ℤ) : Type 0 where
-    pub rows : AreLive tail_of all edges (length graph.ids) live
+  pub record HasMessages (numbers : List ℤ) : Type 0 where
     pub size : length numbers ≡ length graph.ids
     pub each : (u e : ℕ) → u < length graph.ids → number_at numbers u ≡ sent_in answer p graph (arcs_in all edges) r u e
 
   -- the numbers are those of the values of the round, and the message is the value and a property of the edge added
-  pub record HasValues (column : ℕ) (live : Live Link) (numbers : List ℤ) : Type 0 where
-    pub rows : AreLive (link_of graph column) all edges (length graph.ids) live
-    pub proper : AreProper graph column
+  pub record HasValues (column : ℕ) (numbers : List ℤ) : Type 0 where
     pub step : IsStep p column
     pub size : length numbers ≡ length graph.ids
     pub each : (u : ℕ) → u < length graph.ids → number_at numbers u ≡ value_at (lone answer p graph (arcs_in all edges) r) u
 
-  abbrev pub IsFed : Feed → Type 0
-  IsFed (feeds.Messages live numbers) = HasMessages live numbers.items
-  IsFed (feeds.Steps column live numbers) = HasValues column live numbers.items
-  IsFed feeds.Nothing = ⊤
+-- the tails of the arcs of the view
+abbrev pub AreTails : GraphData → List Arc → List Bool → Live NodeNo → Type 0
+AreTails graph all edges live = AreLive tail_of all edges (length graph.ids) live
+
+-- the tails of the arcs of the view, each with a property of the edge
+pub record AreLinks (graph : GraphData) (all : List Arc) (edges : List Bool) (column : ℕ) (live : Live Link) : Type 0 where
+  pub rows : AreLive (link_of graph column) all edges (length graph.ids) live
+  pub proper : AreProper graph column
+
+abbrev pub IsFed : Answer → Program → GraphData → List Arc → List Bool → ℕ → Feed → Type 0
+IsFed answer p graph all edges r (feeds.Messages numbers live) = HasMessages answer p graph all edges r numbers.items × IfSome live (AreTails graph all edges)
+IsFed answer p graph all edges r (feeds.Steps column numbers live) = HasValues answer p graph all edges r column numbers.items × IfSome live (AreLinks graph all edges column)
+IsFed answer p graph all edges r feeds.Nothing = ⊤
 
 -- the same of a step
 abbrev pub StandsFed : Answer → Frame → ℕ → Feed → Type 0

@@ -1,4 +1,5 @@
 pub mod Sides
+pub mod Chained
 pub mod Histories
 pub mod Queues
 pub mod RowLists

@@ -1,10 +1,11 @@
 -- A value as one number: the lowest one stands for none.
-use Rattle.std.specs.Prelude.{◌≡◌, ◌<◌, ℕ, ℤ, pos, true, if◌then◌else◌, List, length, get_or, map, filter}
+use Rattle.std.specs.Prelude.{◌≡◌, ◌<◌, ℕ, ℤ, pos, Bool, true, if◌then◌else◌, List, length, get_or, map, filter}
 use Rattle.std.specs.Ordering.{int_eq}
 use Rattle.graph_model.specs.declared.number.NodeNo.{NodeNo}
 use Rattle.graph_model.specs.declared.value.Val.{Val}
 use Rattle.graph_model.specs.declared.value.Val.TheVariants.{Nil, Num}
 use Rattle.graph_model.specs.GraphData.{GraphData}
+use Rattle.vertex_lang.specs.declared.arc.Arc.{Arc}
 use Rattle.vertex_lang.specs.declared.program.Program.{Program}
 use Rattle.vertex_lang.specs.Arcs.{is_sent}
 use Rattle.vertex_lang.specs.Expressions.{sent_by, edge_value}
@@ -12,6 +13,7 @@ use Rattle.vertex_lang.specs.Rounds.{value_at}
 use Rattle.vertex_lang.specs.Values.{added, lowest_number}
 use Rattle.round_kernel.specs.declared.history.Change.{Change}
 use Rattle.round_kernel.specs.Histories.{is_changed}
+use Rattle.round_kernel.specs.Sides.{in_view}
 
 abbrev pub value_in : ℤ → Val
 value_in z = if int_eq z lowest_number then Nil else Num z
@@ -39,7 +41,23 @@ pub record AreRenewed (values : List Val) (changes : List Change) (before after 
 abbrev pub sent_from : List ℤ → List NodeNo → List Val
 sent_from numbers tails = filter is_sent (map (λ (t : NodeNo). number_at numbers t.0) tails)
 
+-- what an arc brings, where it brings the number of its tail; none where its edge isn't in the view
+abbrev pub brought_by : List ℤ → List Bool → Arc → Val
+brought_by numbers edges a = if in_view edges a then number_at numbers a.tail.0 else Nil
+
+-- what these arcs bring, in their order
+abbrev pub sent_in_view : List ℤ → List Bool → List Arc → List Val
+sent_in_view numbers edges row = filter is_sent (map (brought_by numbers edges) row)
+
 -- ---- messages that are a value and a property of the edge added
+
+-- what an arc brings, where it brings the number of its tail and the property added; none where its edge isn't in the view
+abbrev pub brought_with : GraphData → ℕ → List ℤ → List Bool → Arc → Val
+brought_with graph column numbers edges a = if in_view edges a then added true (number_at numbers a.tail.0) (edge_value graph a.edge.0 column) else Nil
+
+-- what these arcs bring, in their order
+abbrev pub sent_with : GraphData → ℕ → List ℤ → List Bool → List Arc → List Val
+sent_with graph column numbers edges row = filter is_sent (map (brought_with graph column numbers edges) row)
 
 -- the message is the value and the property of the edge in this column, added
 abbrev pub IsStep : Program → ℕ → Type 0

@@ -1,6 +1,6 @@
 //! What makes the visits of a round fast.
 
-ghost use Rattle.std.specs.Prelude.{◌≡◌, ◌<◌, ◌+◌, false, All, IfOk};
+ghost use Rattle.std.specs.Prelude.{◌≡◌, ◌<◌, ◌+◌, false, All, IfOk, OnOk};
 ghost use Rattle.round_kernel.specs.Aiding.{StandsAided};
 ghost use Rattle.round_kernel.specs.Frames.{IsFrame, StandAt, count_in, lone_at, old_lone_at, was_touched_at};
 ghost use Rattle.round_kernel.specs.Histories.{HasChanges};
@@ -10,6 +10,7 @@ use crate::history::Change;
 use crate::round::{Frame, Lists};
 use crate::told::Told;
 use std::alloc::Global;
+use std::mem;
 use surge_outside::NoMemory;
 use vertex_lang::Updater;
 
@@ -18,6 +19,8 @@ use vertex_lang::Updater;
 pub(crate) struct Aids {
     pub(crate) feed: Feed,
     pub(crate) told: Told,
+    /// How many nodes were visited so far.
+    pub(crate) visits: usize,
 }
 
 impl Aids {
@@ -34,7 +37,34 @@ impl Aids {
     {
         let feed = Feed::new(alloc, frame, lists, updater)?;
         let told = Told::new(alloc, frame, lists, updater)?;
-        Ok(Aids { feed, told })
+        Ok(Aids {
+            feed,
+            told,
+            visits: 0,
+        })
+    }
+
+    /// So many nodes are visited next: where all in all many are, the arcs of the new view are made. The error is want of
+    /// memory.
+    pub(crate) fn expect<U: Updater>(
+        &mut self,
+        alloc: Global,
+        frame: Frame<'_>,
+        round: u32,
+        count: usize,
+        updater: &U,
+    ) -> Result<(), NoMemory>
+        requires frame { IsFrame U.answer frame frame.limit }
+        requires aided { StandsAided U.answer frame round self.old }
+        ensures aided { OnOk result (StandsAided U.answer frame.entry round self.new) }
+    {
+        self.visits = self.visits.saturating_add(count);
+        if self.visits < frame.graph.node_count() as usize {
+            return Ok(());
+        }
+        let feed = mem::replace(&mut self.feed, Feed::Nothing);
+        self.feed = feed.with_arcs(alloc, frame, round, updater)?;
+        Ok(())
     }
 
     /// One round on, given what changes to it in the new view and in the view before, and the lists as they stand in it.

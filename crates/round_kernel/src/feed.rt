@@ -1,9 +1,9 @@
 //! What is kept of the arcs of a view and of a round's values, so that a node's messages are found fast.
 
-ghost use Rattle.std.specs.Prelude.{◌≡◌, ◌<◌, ◌+◌, length, All, IfOk};
+ghost use Rattle.std.specs.Prelude.{◌≡◌, ◌<◌, ◌+◌, length, All, IfOk, IfSome};
 ghost use Rattle.vertex_lang.specs.Leaves.{IsChecked};
 ghost use Rattle.lone_work.specs.Inputs.{got_values};
-ghost use Rattle.round_kernel.specs.Feeds.{IsFed, StandsFed};
+ghost use Rattle.round_kernel.specs.Feeds.{AreLinks, AreTails, IsFed, StandsFed};
 ghost use Rattle.round_kernel.specs.Frames.{IsFrame, StandAt, count_in, lone_at, was_touched_at};
 ghost use Rattle.round_kernel.specs.Histories.{HasChanges};
 ghost use Rattle.round_kernel.specs.RowLists.{AreRows};
@@ -13,7 +13,9 @@ ghost use Rattle.round_kernel.specs.Tallies.{tally_of};
 use crate::history::Change;
 use crate::live::{Link, Live, live_links, live_tails};
 use crate::message::{Side, tally};
-use crate::numbers::{numbers_of, renew, step_column, tally_links, tally_tails};
+use crate::numbers::{
+    numbers_of, renew, step_column, tally_arcs, tally_links, tally_steps, tally_tails,
+};
 use crate::round::{Frame, Lists};
 use crate::rows::Rows;
 use crate::tally::Tally;
@@ -22,14 +24,14 @@ use std::alloc::Global;
 use surge_outside::NoMemory;
 use vertex_lang::{Program, Updater};
 
-/// What is kept of the arcs of the new view by head, and of each node as a number.
+/// What is kept of each node as a number; and, where many nodes are looked at, of the arcs of the new view by head.
 #[derive(Drop)]
 pub(crate) enum Feed {
-    /// The message of each node is the same along all arcs that leave it: their tails, and the messages.
-    Messages(Live<NodeNo>, Vec<i64>),
-    /// The message is the value of the tail and the edge's property in this column, added: the tails with the property, and
-    /// the values.
-    Steps(u32, Live<Link>, Vec<i64>),
+    /// The message of each node is the same along all arcs that leave it: the messages, and the tails of the arcs.
+    Messages(Vec<i64>, Option<Live<NodeNo>>),
+    /// The message is the value of the tail and the edge's property in this column, added: the values, and the tails of the
+    /// arcs with the property.
+    Steps(u32, Vec<i64>, Option<Live<Link>>),
     /// Nothing is kept.
     Nothing,
 }
@@ -48,22 +50,41 @@ impl Feed {
     {
         if lists.alike {
             return match numbers_of(alloc, &lists.new_sent)? {
-                Some(numbers) => {
-                    let live = live_tails(alloc, frame.graph, frame.rows, frame.new)?;
-                    Ok(Feed::Messages(live, numbers))
-                }
+                Some(numbers) => Ok(Feed::Messages(numbers, None)),
                 None => Ok(Feed::Nothing),
             };
         }
         match step_column(frame.program) {
             Some(column) => match numbers_of(alloc, &lists.new_now)? {
-                Some(numbers) => {
-                    let live = live_links(alloc, frame.graph, frame.rows, frame.new, column)?;
-                    Ok(Feed::Steps(column, live, numbers))
-                }
+                Some(numbers) => Ok(Feed::Steps(column, numbers, None)),
                 None => Ok(Feed::Nothing),
             },
             None => Ok(Feed::Nothing),
+        }
+    }
+
+    /// With the arcs of the new view, made where they aren't kept yet. The error is want of memory.
+    pub(crate) fn with_arcs<U: Updater>(
+        self,
+        alloc: Global,
+        frame: Frame<'_>,
+        _round: u32,
+        _updater: &U,
+    ) -> Result<Feed, NoMemory>
+        requires frame { IsFrame U.answer frame frame.limit }
+        requires fed { StandsFed U.answer frame _round self }
+        ensures { IfOk result (StandsFed U.answer frame.entry _round) }
+    {
+        match self {
+            Feed::Messages(numbers, kept) => {
+                let live = tails_of(alloc, frame, kept)?;
+                Ok(Feed::Messages(numbers, Some(live)))
+            }
+            Feed::Steps(column, numbers, kept) => {
+                let live = links_of(alloc, frame, column, kept)?;
+                Ok(Feed::Steps(column, numbers, Some(live)))
+            }
+            Feed::Nothing => Ok(Feed::Nothing),
         }
     }
 
@@ -84,8 +105,8 @@ impl Feed {
         ensures { StandsFed U.answer frame.entry (round + 1) self.new }
     {
         let all = match self {
-            Feed::Messages(_, numbers) => lists.alike && renew(numbers, &lists.new_sent, changes),
-            Feed::Steps(_, _, numbers) => renew(numbers, &lists.new_now, changes),
+            Feed::Messages(numbers, _) => lists.alike && renew(numbers, &lists.new_sent, changes),
+            Feed::Steps(_, numbers, _) => renew(numbers, &lists.new_now, changes),
             Feed::Nothing => true,
         };
         if !all {
@@ -113,9 +134,57 @@ impl Feed {
         ensures { result ≡ tally_of program.now.gather (got_values U.answer program.now graph.now (arcs_in rows.now.by_head side.entry.edges.now) node.0 round) }
     {
         match self {
-            Feed::Messages(live, numbers) => tally_tails(program.gather, numbers, live.row(node)),
-            Feed::Steps(_, live, numbers) => tally_links(program.gather, numbers, live.row(node)),
+            Feed::Messages(numbers, live) => match live {
+                Some(tails) => tally_tails(program.gather, numbers, tails.row(node)),
+                None => tally_arcs(program.gather, numbers, side.edges, rows.into(node)),
+            },
+            Feed::Steps(column, numbers, live) => match live {
+                Some(links) => tally_links(program.gather, numbers, links.row(node)),
+                None => tally_steps(
+                    program.gather,
+                    graph,
+                    *column,
+                    numbers,
+                    side.edges,
+                    rows.into(node),
+                ),
+            },
             Feed::Nothing => tally(program, graph, side, rows.into(node)),
         }
+    }
+}
+
+// The tails of the arcs of the new view, made where they aren't kept yet.
+fn tails_of(
+    alloc: Global,
+    frame: Frame<'_>,
+    kept: Option<Live<NodeNo>>,
+) -> Result<Live<NodeNo>, NoMemory>
+    requires rows { AreRows frame.graph.now frame.rows.now }
+    requires edges { length frame.new.now ≡ length frame.graph.now.ends }
+    requires kept { IfSome kept (AreTails frame.graph.now frame.rows.now.by_head frame.new.now) }
+    ensures { IfOk result (AreTails frame.entry.graph.now frame.entry.rows.now.by_head frame.entry.new.now) }
+{
+    match kept {
+        Some(live) => Ok(live),
+        None => live_tails(alloc, frame.graph, frame.rows, frame.new),
+    }
+}
+
+// The same, with a property of the edge.
+fn links_of(
+    alloc: Global,
+    frame: Frame<'_>,
+    column: u32,
+    kept: Option<Live<Link>>,
+) -> Result<Live<Link>, NoMemory>
+    requires rows { AreRows frame.graph.now frame.rows.now }
+    requires edges { length frame.new.now ≡ length frame.graph.now.ends }
+    requires kept { IfSome kept (AreLinks frame.graph.now frame.rows.now.by_head frame.new.now column) }
+    ensures { IfOk result (AreLinks frame.entry.graph.now frame.entry.rows.now.by_head frame.entry.new.now column) }
+{
+    match kept {
+        Some(live) => Ok(live),
+        None => live_links(alloc, frame.graph, frame.rows, frame.new, column),
     }
 }

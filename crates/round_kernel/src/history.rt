@@ -1,10 +1,11 @@
 //! What is kept of a view.
 
-ghost use Rattle.std.specs.Prelude.{◌≡◌, ◌<◌, ◌-◌, [], get_or};
+ghost use Rattle.std.specs.Prelude.{◌≡◌, ◌<◌, ◌-◌, [], get_or, IfOk};
 
+use crate::chained::ChainedLists;
 use graph_model::{NodeNo, Val};
 use std::alloc::Global;
-use surge_outside::List;
+use surge_outside::{List, NoMemory};
 
 /// A node, and the value that it changed to.
 #[derive(Clone, Copy, Debug, PartialEq, Eq)]
@@ -18,8 +19,8 @@ pub struct Change {
 /// differs between these rounds, each once and in any order. Behind the last place nothing changes.
 #[derive(Debug, Drop)]
 pub struct History {
-    pub changes: List<List<Change>>,
-    pub marks: List<List<NodeNo>>,
+    pub changes: ChainedLists<Change>,
+    pub marks: ChainedLists<NodeNo>,
     /// The value with which each node starts, which is the same in all views; empty where no view was stepped yet.
     pub starts: List<Val>,
 }
@@ -32,17 +33,32 @@ impl History {
         ensures starts { result.starts ≡ [] }
     {
         History {
-            changes: List::new(alloc),
-            marks: List::new(alloc),
+            changes: ChainedLists::new(alloc),
+            marks: ChainedLists::new(alloc),
             starts: List::new(alloc),
         }
+    }
+
+    /// The same, with room for as much as another one holds. The error is want of memory.
+    pub(crate) fn beside(alloc: Global, other: &History) -> Result<History, NoMemory>
+        ensures changes { IfOk result (λ h. h.changes ≡ []) }
+        ensures marks { IfOk result (λ h. h.marks ≡ []) }
+    {
+        let changes = ChainedLists::with_room(alloc, other.changes.size(), other.changes.len())?;
+        let marks = ChainedLists::with_room(alloc, other.marks.size(), other.marks.len())?;
+        let starts = List::new(alloc);
+        Ok(History {
+            changes,
+            marks,
+            starts,
+        })
     }
 
     /// What changes from this round to the next.
     pub(crate) fn changes_after(&self, round: u32) -> &[Change]
         ensures { result.now ≡ get_or self.now.changes round [] }
     {
-        list_at(&self.changes, round as usize)
+        self.changes.at(round as usize)
     }
 
     /// What changes from the round before this one. Nothing is before round 0.
@@ -52,23 +68,13 @@ impl History {
         if round == 0 {
             return &[];
         }
-        list_at(&self.changes, (round - 1) as usize)
+        self.changes.at((round - 1) as usize)
     }
 
     /// The nodes whose input differs between this round and the next.
     pub(crate) fn marks_after(&self, round: u32) -> &[NodeNo]
         ensures { result.now ≡ get_or self.now.marks round [] }
     {
-        list_at(&self.marks, round as usize)
-    }
-}
-
-/// The list at this place, and the empty one behind the last.
-pub(crate) fn list_at<T>(lists: &List<List<T>>, place: usize) -> &[T]
-    ensures { result.now ≡ get_or lists.now place [] }
-{
-    match lists.as_slice().get(place) {
-        Some(list) => list.as_slice(),
-        None => &[],
+        self.marks.at(round as usize)
     }
 }

@@ -10,6 +10,7 @@
 #![tactic(auto)]
 
 mod aids;
+mod chained;
 mod feed;
 mod history;
 mod live;
@@ -25,6 +26,7 @@ mod told;
 mod values;
 mod visit;
 
+pub use chained::ChainedLists;
 pub use history::{Change, History};
 pub use rows::Rows;
 pub use step::{Stepped, first_step, next_step};

@@ -5,7 +5,7 @@ ghost use Rattle.graph_model.specs.declared.value.Val.TheVariants.{Num};
 ghost use Rattle.vertex_lang.specs.declared.program.Expr.TheVariants.{EdgeProp};
 ghost use Rattle.vertex_lang.specs.Expressions.{edge_value};
 ghost use Rattle.vertex_lang.specs.Values.{added};
-ghost use Rattle.round_kernel.specs.Numbers.{AreNumbers, AreRenewed, AreProper, IsStep, sent_from, value_in, code_of};
+ghost use Rattle.round_kernel.specs.Numbers.{AreNumbers, AreRenewed, AreProper, IsStep, brought_by, brought_with, sent_from, sent_in_view, sent_with, value_in, code_of};
 ghost use Rattle.round_kernel.specs.Links.{sent_over};
 ghost use Rattle.round_kernel.specs.Tallies.{tally_of};
 
@@ -16,7 +16,7 @@ use crate::tally::{Tally, clamp_number};
 use graph_model::{CellRef, EdgeNo, Graph, NodeNo, Val};
 use std::alloc::Global;
 use surge_outside::NoMemory;
-use vertex_lang::{Expr, Gather, Program};
+use vertex_lang::{Arc, Expr, Gather, Program};
 
 /// A value as one number, where it is not the one that stands for none.
 fn number_of(value: Val) -> Option<i64>
@@ -56,6 +56,73 @@ pub(crate) fn renew(numbers: &mut [i64], values: &[Val], changes: &[Change]) -> 
         }
     }
     true
+}
+
+/// What comes of arcs that bring the numbers of their tails. What isn't in the view brings none.
+pub(crate) fn tally_arcs(kind: Gather, numbers: &[i64], edges: &[bool], row: &[Arc]) -> Tally
+    requires few { length row.now < 2 ^ 32 }
+    requires tails { All (λ a. a.tail.0 < length numbers.now) row.now }
+    requires edges { All (λ a. a.edge.0 < length edges.now) row.now }
+    ensures { result ≡ tally_of kind (sent_in_view numbers.now edges.now row.now) }
+{
+    let mut span = Span::new();
+    for arc in row {
+        span = span.with(number_over(numbers, edges, *arc));
+    }
+    span.tally(kind)
+}
+
+// The number that an arc brings.
+fn number_over(numbers: &[i64], edges: &[bool], arc: Arc) -> i64
+    requires tail { arc.tail.0 < length numbers.now }
+    requires edge { arc.edge.0 < length edges.now }
+    ensures { value_in result ≡ brought_by numbers.now edges.now arc }
+{
+    if edges[arc.edge.0 as usize] {
+        numbers[arc.tail.0 as usize]
+    } else {
+        NONE
+    }
+}
+
+/// What comes of arcs that bring the number of their tail and a property of their edge added. What isn't in the view brings
+/// none.
+pub(crate) fn tally_steps(
+    kind: Gather,
+    graph: &Graph,
+    column: u32,
+    numbers: &[i64],
+    edges: &[bool],
+    row: &[Arc],
+) -> Tally
+    requires few { length row.now < 2 ^ 32 }
+    requires tails { All (λ a. a.tail.0 < length numbers.now) row.now }
+    requires edges { All (λ a. a.edge.0 < length edges.now) row.now }
+    requires size { length edges.now ≡ length graph.now.ends }
+    ensures { result ≡ tally_of kind (sent_with graph.now column numbers.now edges.now row.now) }
+{
+    let mut span = Span::new();
+    for arc in row {
+        span = span.with(number_with_step(graph, column, numbers, edges, *arc));
+    }
+    span.tally(kind)
+}
+
+// The number that an arc brings, with the property of its edge added.
+fn number_with_step(graph: &Graph, column: u32, numbers: &[i64], edges: &[bool], arc: Arc) -> i64
+    requires tail { arc.tail.0 < length numbers.now }
+    requires edge { arc.edge.0 < length edges.now }
+    requires size { length edges.now ≡ length graph.now.ends }
+    ensures { value_in result ≡ brought_with graph.now column numbers.now edges.now arc }
+{
+    if edges[arc.edge.0 as usize] {
+        sum_of(
+            numbers[arc.tail.0 as usize],
+            step_of(graph, arc.edge, column),
+        )
+    } else {
+        NONE
+    }
 }
 
 /// What comes of arcs that bring the numbers of their tails.

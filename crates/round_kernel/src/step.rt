@@ -14,7 +14,8 @@ ghost use Rattle.round_kernel.specs.Aiding.{StandsAided};
 ghost use Rattle.round_kernel.specs.Steps.{HasRounds, IsRun, outcome_of, TellsAll, AreAlong};
 
 use crate::aids::Aids;
-use crate::history::{Change, History, list_at};
+use crate::chained::ChainedLists;
+use crate::history::{Change, History};
 use crate::round::{Frame, Lists, go_on, run_round};
 use crate::rows::Rows;
 use crate::tally::Kept;
@@ -157,7 +158,8 @@ fn run_rounds<U: Updater>(alloc: Global, frame: Frame<'_>, updater: &mut U) -> R
     let mut lists = Lists::new(alloc, frame, updater)?;
     let mut kept = vec![in alloc; Kept::new(); frame.graph.node_count() as usize]?;
     let mut aids = Aids::new(alloc, frame, &lists, updater)?;
-    let mut history = History::new(alloc);
+    let mut history = History::beside(alloc, frame.history)?;
+    let mut made = Made::new(alloc);
     let mut work = 0;
     let mut round = 0;
     while round < frame.limit && !is_quiet(frame.history, &history, round) {
@@ -169,6 +171,7 @@ fn run_rounds<U: Updater>(alloc: Global, frame: Frame<'_>, updater: &mut U) -> R
             &mut lists,
             &mut kept,
             &mut aids,
+            &mut made,
             updater,
         )?;
         round += 1;
@@ -200,6 +203,7 @@ fn run_one<U: Updater>(
     lists: &mut Lists,
     kept: &mut [Kept],
     aids: &mut Aids,
+    made: &mut Made,
     updater: &mut U,
 ) -> Result<u64, NoMemory>
     requires frame { IsFrame U.answer frame frame.limit }
@@ -221,7 +225,9 @@ fn run_one<U: Updater>(
     ensures calls { IfOk result (λ n. U.calls updater.new ≡ U.calls updater.old + n) }
 {
     let before = history.changes_before(round);
-    let (made, work) = run_round(alloc, frame, before, round, lists, kept, aids, updater)?;
+    let work = run_round(
+        alloc, frame, before, round, lists, kept, aids, made, updater,
+    )?;
     go_on(
         frame,
         before,
@@ -244,22 +250,20 @@ fn run_one<U: Updater>(
 }
 
 // Adds what a round gave. The marks of round 0 are not kept.
-fn add_round(history: &mut History, round: u32, made: Made) -> Result<(), NoMemory>
-    ensures changes { OnOk result (history.new.changes ≡ history.old.changes ++ made.changes ∷ []) }
+fn add_round(history: &mut History, round: u32, made: &Made) -> Result<(), NoMemory>
+    ensures changes { OnOk result (history.new.changes ≡ history.old.changes ++ made.now.changes ∷ []) }
     ensures first { OnOk result (round ≡ 0 → history.new.marks ≡ history.old.marks) }
-    ensures later { OnOk result (0 < round → history.new.marks ≡ history.old.marks ++ made.marks ∷ []) }
+    ensures later { OnOk result (0 < round → history.new.marks ≡ history.old.marks ++ made.now.marks ∷ []) }
 {
-    let Made { marks, changes } = made;
-    history.changes.push(changes)?;
+    history.changes.push(made.changes.as_slice())?;
     if round == 0 {
         return Ok(());
     }
-    history.marks.push(marks)?;
-    Ok(())
+    history.marks.push(made.marks.as_slice())
 }
 
 // Takes away rounds at the end in which nothing changes.
-fn trim(changes: &mut List<List<Change>>)
+fn trim(changes: &mut ChainedLists<Change>)
     ensures places { (k : ℕ) → get_or changes.new k [] ≡ get_or changes.old k [] }
     ensures few { length changes.new ≤ length changes.old }
     ensures last { 0 < length changes.new → get_or changes.new (length changes.new - 1) [] ≢ [] }
@@ -272,12 +276,12 @@ fn trim(changes: &mut List<List<Change>>)
 }
 
 // Whether nothing changes in the last of so many rounds.
-fn is_still(changes: &List<List<Change>>, count: usize) -> bool
+fn is_still(changes: &ChainedLists<Change>, count: usize) -> bool
     ensures some { IsTrue result → 0 < count }
     ensures still { IsTrue result → get_or changes.now (count - 1) [] ≡ [] }
     ensures moves { IsFalse result → 0 < count → get_or changes.now (count - 1) [] ≢ [] }
 {
-    count > 0 && list_at(changes, count - 1).is_empty()
+    count > 0 && changes.at(count - 1).is_empty()
 }
 
 // The outcome of a run, given its history.

@@ -1,6 +1,6 @@
 //! A visit to a node in a round.
 
-ghost use Rattle.std.specs.Prelude.{◌≡◌, ◌<◌, ◌+◌, ◌-◌, ◌++◌, ◌&&◌, ◌||◌, not, true, false, length, Some, IfOk, OnOk, if◌then◌else◌};
+ghost use Rattle.std.specs.Prelude.{◌≡◌, ◌<◌, ◌+◌, ◌-◌, ◌++◌, ◌&&◌, ◌||◌, [], not, true, false, length, Some, IfOk, OnOk, if◌then◌else◌};
 ghost use Rattle.vertex_lang.specs.Leaves.{IsChecked};
 ghost use Rattle.vertex_lang.specs.Expressions.{start_of};
 ghost use Rattle.vertex_lang.specs.Rounds.{value_at, lone};
@@ -21,6 +21,7 @@ use crate::rows::Rows;
 use crate::tally::{Kept, Tally};
 use crate::told::Movers;
 use graph_model::{Graph, NodeNo, Val};
+use std::alloc::Global;
 use surge_outside::{List, NoMemory};
 use vertex_lang::{Program, Updater};
 
@@ -49,6 +50,25 @@ pub(crate) struct Sides<'a> {
 pub(crate) struct Made {
     pub(crate) marks: List<NodeNo>,
     pub(crate) changes: List<Change>,
+}
+
+impl Made {
+    /// Nothing yet.
+    pub(crate) fn new(alloc: Global) -> Made {
+        Made {
+            marks: List::new(alloc),
+            changes: List::new(alloc),
+        }
+    }
+
+    /// Nothing anew.
+    pub(crate) fn clear(&mut self)
+        ensures marks { self.new.marks ≡ [] }
+        ensures changes { self.new.changes ≡ [] }
+    {
+        self.marks.clear();
+        self.changes.clear();
+    }
 }
 
 /// Visits a node: tells whether it is touched and evaluates it where it is counted. Of a touched node it keeps what

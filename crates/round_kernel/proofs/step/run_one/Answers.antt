@@ -27,18 +27,18 @@ go_on-requires-2-clause-within g c =
 
 pub returns-clause-history : goal.returns-clause-history
 returns-clause-history g c =
-    rounds-more g.U.Updater.answer c.args.frame c.args.history.now c.add_round.new.history c.in_ok-made.made.changes c.in_ok-made.made.marks c.args.round c.requires.history
-    c.in_ok-add_round.ensures.changes c.in_ok-add_round.ensures.first c.in_ok-add_round.ensures.later c.in_ok-made.ensures.changes c.in_ok-made.ensures.marks
+    rounds-more g.U.Updater.answer c.args.frame c.args.history.now c.add_round.new.history c.run_round.new.made.changes c.run_round.new.made.marks c.args.round c.requires.history
+    c.in_ok-add_round.ensures.changes c.in_ok-add_round.ensures.first c.in_ok-add_round.ensures.later c.in_ok-work.ensures.changes c.in_ok-work.ensures.marks
 
 pub returns-clause-kept : goal.returns-clause-kept
-returns-clause-kept g c = kept-on g.U.Updater.answer c.args.frame c.args.round c.run_round.new.kept c.in_ok-made.ensures.kept
+returns-clause-kept g c = kept-on g.U.Updater.answer c.args.frame c.args.round c.run_round.new.kept c.in_ok-work.ensures.kept
 
 pub returns-clause-work : goal.returns-clause-work
 returns-clause-work g c =
     let f = c.args.frame in
-    omega (arith, work-by-rounds g.U.Updater.answer f.program.now f.graph.now (new_arcs f) (old_arcs f) c.args.round, c.in_ok-made.ensures.work)
+    omega (arith, work-by-rounds g.U.Updater.answer f.program.now f.graph.now (new_arcs f) (old_arcs f) c.args.round, c.in_ok-work.ensures.work)
 
 pub returns-clause-few : goal.returns-clause-few
 returns-clause-few g c =
     let f = c.args.frame in
-    omega (arith, c.in_ok-made.ensures.work, count_by-le-length (counted_at g.U.Updater.answer f c.args.round) (range_with_len 0 (count_in f)), length-range_with_len 0 (count_in f), c.requires.frame.few)
+    omega (arith, c.in_ok-work.ensures.work, count_by-le-length (counted_at g.U.Updater.answer f c.args.round) (range_with_len 0 (count_in f)), length-range_with_len 0 (count_in f), c.requires.frame.few)

@@ -13,7 +13,7 @@ use Rattle.round_kernel.proofs.step.run_rounds.Goals.{then-loop-round-test+else-
 
 pub loop-round-init : goal.loop-round-init
 loop-round-init g c = record {
-  rounds = rounds-none g.U.Updater.answer c.args.frame c.new-history.result c.new-history.ensures.changes c.new-history.ensures.marks;
+  rounds = rounds-none g.U.Updater.answer c.args.frame c.in_ok-history.history c.in_ok-history.ensures.changes c.in_ok-history.ensures.marks;
   at = c.in_ok-lists.ensures.at;
   idle = c.in_ok-lists.ensures.idle;
   kept_size = ap (λ (ks : List Kept). length ks) (c.in_ok-kept.ensures.items_if_clones_equal (λ y e. e)) ∙ length-replicate _ _ ∙ c.node_count.ensures.count;

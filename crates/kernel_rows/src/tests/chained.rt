@@ -1,0 +1,24 @@
+//! Lists that lie one behind the other.
+
+use graph_model::NodeNo;
+use round_kernel::ChainedLists;
+use std::test::Fail;
+
+#[test]
+fn lists_are_told_apart(rt: HostRuntime) -> Result<(), Fail> {
+    let mut chained = ChainedLists::with_room(rt.alloc(), 2, 1)?;
+    chained.push(&[NodeNo(3)])?;
+    chained.push(&[])?;
+    chained.push(&[NodeNo(1), NodeNo(2)])?;
+    assert_eq!(rt; chained.len(), 3);
+    assert_eq!(rt; chained.at(0), [NodeNo(3)].as_slice());
+    assert_eq!(rt; chained.at(1).len(), 0);
+    assert_eq!(rt; chained.at(2), [NodeNo(1), NodeNo(2)].as_slice());
+    assert_eq!(rt; chained.at(3).len(), 0);
+    chained.truncate(1);
+    assert_eq!(rt; chained.len(), 1);
+    chained.push(&[NodeNo(4)])?;
+    assert_eq!(rt; chained.at(0), [NodeNo(3)].as_slice());
+    assert_eq!(rt; chained.at(1), [NodeNo(4)].as_slice());
+    Ok(())
+}

@@ -1,0 +1,11 @@
+use Rattle.std.proofs.Common.{take}
+use Rattle.round_kernel.specs.Numbers.{sent_with}
+use Rattle.round_kernel.specs.Spans.{IsSpan, sums_of}
+use Rattle.round_kernel.specs.Tallies.{IsBounded}
+use Rattle.round_kernel.proofs.numbers.tally_steps.Given as goal
+
+abbrev pub invariant-loop-arc : goal.invariant-loop-arc
+invariant-loop-arc l = record {
+  span : IsSpan l.span (sent_with l.graph l.column l.numbers l.edges (take l.arc-index l.row));
+  bounded : IsBounded (sums_of l.span);
+}
