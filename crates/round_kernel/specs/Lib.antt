@@ -1,5 +1,6 @@
 pub mod Sides
 pub mod Chained
+pub mod Forms
 pub mod Histories
 pub mod Queues
 pub mod RowLists

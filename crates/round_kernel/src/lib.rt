@@ -19,6 +19,7 @@ mod numbers;
 mod queue;
 mod round;
 mod rows;
+mod sent;
 mod span;
 mod step;
 mod tally;

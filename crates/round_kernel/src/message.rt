@@ -15,12 +15,13 @@ ghost use Rattle.round_kernel.specs.Telling.{InMovers, AreStill, moves};
 ghost use Rattle.round_kernel.specs.Tallies.{tally_of};
 
 use crate::numbers::{step_column, stepped};
+use crate::sent::send;
 use crate::tally::{Tally, lesser_of};
 use crate::told::Movers;
 use graph_model::{Graph, Val};
 use multisets::are_one_multiset;
 use surge_outside::NoMemory;
-use vertex_lang::{Arc, Program, send};
+use vertex_lang::{Arc, Program};
 
 /// A round of a view: which edges are in the view, the value of each node in the round, and how many arcs of the view leave
 /// it.

@@ -11,10 +11,11 @@ ghost use Rattle.round_kernel.specs.Histories.{AreStarts, HasChanges, AreChanged
 
 use crate::history::Change;
 use crate::message::is_other;
+use crate::sent::send;
 use graph_model::{EdgeNo, Graph, NodeNo, Val};
 use std::alloc::Global;
 use surge_outside::{List, NoMemory};
-use vertex_lang::{Arc, Program, ignores_edge, send, start};
+use vertex_lang::{Arc, Program, ignores_edge, start};
 
 /// The value with which each node starts, by its number.
 pub(crate) fn start_values(

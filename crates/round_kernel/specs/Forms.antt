@@ -1,0 +1,17 @@
+-- Messages of which the form is known.
+use Rattle.std.specs.Prelude.{◌≡◌, ⊤, ℕ, pos, true}
+use Rattle.graph_model.specs.declared.value.Val.{Val}
+use Rattle.graph_model.specs.declared.value.Val.TheVariants.{Num}
+use Rattle.graph_model.specs.GraphData.{GraphData}
+use Rattle.vertex_lang.specs.declared.program.Program.{Program}
+use Rattle.vertex_lang.specs.Expressions.{sent_by}
+use Rattle.vertex_lang.specs.Values.{added, divided}
+use Rattle.round_kernel.specs.declared.sent.Form.{Form}
+use Rattle.round_kernel.specs.declared.sent.Form.TheVariants as forms
+
+-- what a node with this value and so many arcs sends along an edge, in each known form
+abbrev pub HasForm : Program → Form → Type 0
+HasForm p forms.Value = (graph : GraphData) (u : ℕ) (v : Val) (d e : ℕ) → sent_by p graph u v d e ≡ v
+HasForm p (forms.Plus n) = (graph : GraphData) (u : ℕ) (v : Val) (d e : ℕ) → sent_by p graph u v d e ≡ added true v (Num n)
+HasForm p forms.Share = (graph : GraphData) (u : ℕ) (v : Val) (d e : ℕ) → sent_by p graph u v d e ≡ divided v (Num (pos d))
+HasForm p forms.Other = ⊤

@@ -1,0 +1,146 @@
+//! What a node sends, with the forms that are sent most often told from the program.
+
+ghost use Rattle.std.specs.Prelude.{◌≡◌, ◌≢◌, ◌<◌, ◌^◌, ◌∷◌, [], pos, true, false, length, IfSome, IsTrue};
+ghost use Rattle.std.specs.Int.RustNames.{int_div};
+ghost use Rattle.graph_model.specs.declared.value.Val.TheVariants.{Num};
+ghost use Rattle.vertex_lang.specs.declared.program.Expr.TheVariants.{Number, Outdeg};
+ghost use Rattle.vertex_lang.specs.Expressions.{sent_by};
+ghost use Rattle.vertex_lang.specs.Leaves.{IsChecked};
+ghost use Rattle.vertex_lang.specs.Values.{added, clamped, divided};
+ghost use Rattle.round_kernel.specs.Forms.{HasForm};
+
+use crate::tally::clamp_number;
+use graph_model::{EdgeNo, Graph, NodeNo, Val};
+use vertex_lang::{Expr, Program};
+
+/// Forms of messages that are made without a walk through the expression.
+#[derive(Clone, Copy)]
+pub(crate) enum Form {
+    /// The value.
+    Value,
+    /// The value and a number, added.
+    Plus(i64),
+    /// The value, divided by how many arcs leave the node.
+    Share,
+    /// Any other.
+    Other,
+}
+
+/// As `vertex_lang::send`, in less time where the form of the message is known. It takes no memory.
+pub(crate) fn send(
+    program: &Program,
+    graph: &Graph,
+    tail: NodeNo,
+    value: Val,
+    outdeg: u64,
+    edge: EdgeNo,
+) -> Val
+    requires checked { IsChecked program.now graph.now }
+    requires tail { tail.0 < length graph.now.ids }
+    requires outdeg { outdeg < 2 ^ 32 }
+    requires edge { edge.0 < length graph.now.ends }
+    ensures message { result ≡ sent_by program.now graph.now tail.0 value outdeg edge.0 }
+{
+    match form_of(program) {
+        Form::Value => value,
+        Form::Plus(number) => plus(value, number),
+        Form::Share => share(value, outdeg),
+        Form::Other => vertex_lang::send(program, graph, tail, value, outdeg, edge),
+    }
+}
+
+// The form of the message.
+fn form_of(program: &Program) -> Form
+    ensures { HasForm program.now result }
+{
+    match &program.send {
+        Expr::Value => Form::Value,
+        Expr::Sum(first, rest) => match first.get() {
+            Expr::Value => match only_number(rest.as_slice()) {
+                Some(number) => Form::Plus(number),
+                None => Form::Other,
+            },
+            _ => Form::Other,
+        },
+        Expr::Product(first, rest) => match first.get() {
+            Expr::Value => {
+                if is_outdeg(rest.as_slice()) {
+                    Form::Share
+                } else {
+                    Form::Other
+                }
+            }
+            _ => Form::Other,
+        },
+        _ => Form::Other,
+    }
+}
+
+// Where a number alone is added, that.
+fn only_number(rest: &[(bool, Expr)]) -> Option<i64>
+    ensures { IfSome result (λ n. rest.now ≡ (true, Number n) ∷ []) }
+{
+    if rest.len() != 1 {
+        return None;
+    }
+    let (plus, expr) = &rest[0];
+    if !*plus {
+        return None;
+    }
+    match expr {
+        Expr::Number(number) => Some(*number),
+        _ => None,
+    }
+}
+
+// Whether it is divided by how many arcs leave the node, and by nothing else.
+fn is_outdeg(rest: &[(bool, Expr)]) -> bool
+    ensures { IsTrue result → rest.now ≡ (false, Outdeg) ∷ [] }
+{
+    if rest.len() != 1 {
+        return false;
+    }
+    let (times, expr) = &rest[0];
+    if *times {
+        return false;
+    }
+    match expr {
+        Expr::Outdeg => true,
+        _ => false,
+    }
+}
+
+// A value and a number added.
+fn plus(value: Val, number: i64) -> Val
+    ensures { result ≡ added true value (Num number) }
+{
+    match value {
+        Val::Nil => Val::Nil,
+        Val::Num(given) => Val::Num(clamp_number(i128::from(given) + i128::from(number))),
+    }
+}
+
+// A value divided by how many arcs leave the node; none where none does.
+fn share(value: Val, outdeg: u64) -> Val
+    requires { outdeg < 2 ^ 32 }
+    ensures { result ≡ divided value (Num (pos outdeg)) }
+{
+    match value {
+        Val::Num(number) if outdeg != 0 => Val::Num(quotient(number, outdeg as i64)),
+        _ => Val::Nil,
+    }
+}
+
+// The greatest number that a value can be, 2^63 - 1. The least one is its negation.
+const GREATEST: i64 = i64::MAX;
+
+// The quotient of two numbers, cut towards zero and clamped. Only that of -(2^63) can be out of range.
+fn quotient(number: i64, divisor: i64) -> i64
+    requires { divisor ≢ pos 0 }
+    ensures { result ≡ clamped (int_div number divisor) }
+{
+    if number < -GREATEST {
+        return clamp_number(i128::from(number) / i128::from(divisor));
+    }
+    number / divisor
+}
