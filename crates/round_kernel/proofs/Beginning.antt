@@ -29,6 +29,7 @@ use Rattle.round_kernel.specs.Histories.{IsHistory, HasChanges, HasNodes}
 use Rattle.round_kernel.specs.Queues.{IsQueue}
 use Rattle.round_kernel.specs.Rounds.{was_touched}
 use Rattle.round_kernel.specs.Frames.{IsFrame, StandAt, count_in, was_touched_at}
+use Rattle.round_kernel.specs.TurnedArcs.{TellTurned}
 use Rattle.round_kernel.specs.Steps.{AreAlong, TellsAll}
 use Rattle.round_kernel.proofs.Calming.{none-marked}
 
@@ -102,9 +103,10 @@ module _ (answer : Answer) (f : Frame) (frame : IsFrame answer f f.limit) where
       → length lists.touched.items ≡ count_in f → ((v : ℕ) → v < count_in f → get_or lists.touched.items v false ≡ f.first)
       → length lists.marked.items ≡ count_in f
       → length lists.watched.items ≡ count_in f → All (λ a. get_or lists.watched.items a.tail.0 false ≡ true) f.turned.now
+      → TellTurned (λ a. a.tail.0) f.graph.now f.rows.now.by_head f.first f.old.now f.new.now lists.turned
       → MayKeep lists.alike f.program.now f.graph.now → AreSent lists.alike f.program.now f.graph.now lists.new_degrees.items lists.starts.items lists.new_sent.items
       → IsQueue (count_in f) lists.queue → StandAt answer f 0 (was_touched_at answer f 0) lists
-  at-start lists es eon eob enn enb sod aod bod snd and bnd st at sm sw aw mk kn q =
+  at-start lists es eon eob enn enb sod aod bod snd and bnd st at sm sw aw tt mk kn q =
       let old = at-first f.old.now lists.old_degrees.items lists.old_now.items frame.old_size sod aod bod (eon ∙ es) in
       record {
         starts = es;
@@ -119,6 +121,7 @@ module _ (answer : Answer) (f : Frame) (frame : IsFrame answer f f.limit) where
         marked_size = sm;
         watched_size = sw;
         watched_are = λ one i d low t. All-contains (λ (a : Arc). get_or lists.watched.items a.tail.0 false ≡ true) f.turned.now (get_or f.rows.now.by_head i d) aw (frame.turned one i d low t);
+        turned_are = tt;
         keeps = mk;
         new_sent = subst (λ (vs : List Val). AreSent lists.alike f.program.now f.graph.now lists.new_degrees.items vs lists.new_sent.items) (sym enn) kn;
         queue = q;

@@ -1,33 +1,35 @@
 -- What is told of the nodes at round 0 and one round on.
-use Rattle.std.proofs.Common.{◌≡◌, ◌∙◌, ◌<◌, ◌≤◌, ◌+◌, ◌-◌, sym, ap, subst, ℕ, Bool, true, false, List, length, get_or, arith, inl, inr}
-use Rattle.std.specs.Prelude.{All, Contains, replicate}
-use Rattle.std.proofs.lemmas.Bool.{cases_lt, cases_Bool}
+use Rattle.std.proofs.Common.{◌≡◌, ◌∙◌, ◌<◌, ◌≤◌, ◌+◌, ◌-◌, sym, ap, subst, refl, ℕ, Bool, true, false, List, length, get_or, take, arith, inl, inr}
+use Rattle.std.specs.Prelude.{◌||◌, ◌==◌, replicate}
+use Rattle.std.proofs.lemmas.Bool.{cases_lt, cases_eq, cases_Bool, eq-eqb, ne_eqb}
+use Rattle.std.proofs.lemmas.List.Folds.{list_any_more}
 use Rattle.std.proofs.lemmas.List.{get_or-replicate, get_or_past, length-replicate}
-use Rattle.std.proofs.lemmas.List.Elements.{All-weaker, All-contains}
 use Rattle.graph_model.specs.declared.value.Val.{Val}
 use Rattle.vertex_lang.specs.declared.arc.Arc.{Arc}
 use Rattle.vertex_lang.specs.Arcs.{outdeg}
-use Rattle.vertex_lang.specs.Expressions.{Answer, sent_by}
+use Rattle.vertex_lang.specs.Expressions.{Answer, sent_by, send_words}
 use Rattle.vertex_lang.specs.Rounds.{value_at, lone}
 use Rattle.round_kernel.specs.declared.history.Change.{Change}
 use Rattle.round_kernel.specs.declared.round.Frame.{Frame}
 use Rattle.round_kernel.specs.declared.round.Lists.{Lists}
 use Rattle.round_kernel.specs.declared.told.Told.{Told}
-use Rattle.round_kernel.specs.Flags.{IsFlagged, AreLong, AreSet}
-use Rattle.round_kernel.specs.Frames.{IsFrame, StandAt, count_in, lone_at, old_lone_at, new_arcs}
+use Rattle.round_kernel.specs.Flags.{IsFlagged, IsSettled, AreLong, AreSet}
+use Rattle.round_kernel.specs.Frames.{IsFrame, StandAt, count_in, lone_at, old_lone_at, new_arcs, was_touched_at}
+use Rattle.round_kernel.specs.TurnedArcs.{TellTurned}
 use Rattle.round_kernel.specs.Histories.{is_changed, HasChanges}
-use Rattle.round_kernel.specs.Sides.{in_view, arcs_in, IsTurned}
+use Rattle.round_kernel.specs.Sides.{arcs_in}
 use Rattle.round_kernel.specs.Telling.{StandsTold, sent_in}
 use Rattle.round_kernel.proofs.Brought.{sent-is}
-use Rattle.round_kernel.proofs.Calm.{same-or-turned}
+use Rattle.round_kernel.proofs.Waiting.{clash, or-first, or-right}
+use Rattle.round_kernel.proofs.Filled.{untouched-agree}
 use Rattle.round_kernel.proofs.Filling.{unchanged-at}
-use Rattle.round_kernel.proofs.Waiting.{clash}
 
 -- ---- a round
 
 module _ (answer : Answer) (f : Frame) (r : ℕ) (touched : ℕ → Bool) (lists : Lists) (at : StandAt answer f r touched lists) where
   pub long-at : AreLong (count_in f) lists
   long-at = record {
+    touched = at.touched_size;
     old_values = at.old_sized.values_size;
     new_values = at.new_now.sized.values_size;
     old_degrees = at.old_sized.degrees_size;
@@ -50,26 +52,49 @@ all-zero n u = elim (cases_lt u n) [
   | inr high ↦ get_or_past (replicate n 0) u 0 (omega (arith, high, length-replicate {A = ℕ} n 0))
 ]
 
-pub told-start : (answer : Answer) (f : Frame) (touched : ℕ → Bool) (lists : Lists) → IsFrame answer f f.limit → StandAt answer f 0 touched lists → (told : Told) (n : ℕ) → n ≡ count_in f
+pub told-start : (answer : Answer) (f : Frame) (touched : ℕ → Bool) (lists : Lists) → StandAt answer f 0 touched lists → (told : Told) (n : ℕ) → n ≡ count_in f
     → length told.apart.items ≡ count_in f → ((u : ℕ) → u < count_in f → IsFlagged f lists u (get_or told.apart.items u false)) → told.moved.items ≡ replicate n 0
-    → length told.turned.items ≡ count_in f → All (λ a. get_or told.turned.items a.head.0 false ≡ true) f.turned.now → StandsTold answer f 0 told
-told-start answer f touched lists frame at told n count size flags moved turned heads = record {
+    → TellTurned (λ a. a.head.0) f.graph.now f.rows.now.by_head f.first f.old.now f.new.now told.turned → StandsTold answer f 0 told
+told-start answer f touched lists at told n count size flags moved turned = record {
   apart_size = size;
   moved_size = ap (λ (ns : List ℕ). length ns) moved ∙ length-replicate {A = ℕ} n 0 ∙ count;
-  turned_size = turned;
   apart = λ first u e low unset. flag-tells answer f 0 touched lists at u (get_or told.apart.items u false) low first (flags u low) unset e;
   moved_past = λ u. omega (arith, ap (λ (ns : List ℕ). get_or ns u 0) moved, all-zero n u);
   moved = λ later. absurd (omega (arith, later));
-  turned = λ first. All-weaker (λ (a : Arc). IsTurned f.old.now f.new.now a → Contains f.turned.now a)
-      (λ (a : Arc). get_or told.turned.items a.head.0 false ≡ false → in_view f.new.now a ≡ in_view f.old.now a)
-      (λ a h off. sym (same-or-turned (in_view f.old.now a) (in_view f.new.now a)
-      (λ t. clash (get_or told.turned.items a.head.0 false) off (All-contains (λ (b : Arc). get_or told.turned.items b.head.0 false ≡ true) f.turned.now a heads (h t)))))
-      f.rows.now.by_head (frame.turned first);
+  turned = turned;
 }
+
+-- ---- one node after the other
+
+-- where none of two holds
+first-fails : (a b : Bool) → (a || b) ≡ false → a ≡ false
+first-fails true b e = absurd cc
+first-fails false b e = refl
+
+-- what stands for one changed node more is right
+pub set-more : {A : Type 0} (IsRight : ℕ → A → Type 0) (none : A) (cs : List Change) (i : ℕ) (d : Change) → i < length cs → (before mid after : List A) → AreSet IsRight none (take i cs) before mid
+    → length after ≡ length mid → IsRight (get_or cs i d).node.0 (get_or after (get_or cs i d).node.0 none) → ((u : ℕ) → (u ≡ (get_or cs i d).node.0 → ⊥) → get_or after u none ≡ get_or mid u none)
+    → AreSet IsRight none (take (i + 1) cs) before after
+set-more IsRight none cs i d low before mid after set size right others = record {
+  size = size ∙ set.size;
+  right = λ u listed. elim (cases_eq u node) [
+    | inl same ↦ subst (λ v. IsRight v (get_or after v none)) (sym same) right
+    | inr other ↦ subst (IsRight u) (sym (others u other)) (set.right u (or-first (is_changed u (take i cs)) (node == u) (sym (more u) ∙ listed) (ne_eqb node u (λ e. other (sym e)))))
+  ];
+  others = λ u off. elim (cases_eq u node) [
+    | inl same ↦ absurd (clash (is_changed u (take (i + 1) cs)) off (more u ∙ or-right (is_changed u (take i cs)) (node == u) (eq-eqb node u (sym same))))
+    | inr other ↦ others u other ∙ set.others u (first-fails (is_changed u (take i cs)) (node == u) (sym (more u) ∙ off))
+  ];
+} where
+  node : ℕ
+  node = (get_or cs i d).node.0
+
+  more : (u : ℕ) → is_changed u (take (i + 1) cs) ≡ (is_changed u (take i cs) || (node == u))
+  more u = list_any_more (λ (c : Change). c.node.0 == u) cs i d low
 
 -- ---- one round on
 
-module _ (answer : Answer) (f : Frame) (r : ℕ) (touched : ℕ → Bool) (lists : Lists) (at : StandAt answer f (r + 1) touched lists) (new old : List Change)
+module _ (answer : Answer) (f : Frame) (r : ℕ) (lists : Lists) (frame : IsFrame answer f f.limit) (at : StandAt answer f (r + 1) (was_touched_at answer f (r + 1)) lists) (new old : List Change)
     (news : HasChanges (count_in f) (lone_at answer f r) (lone_at answer f (r + 1)) new)
     (olds : f.first ≡ false → HasChanges (count_in f) (old_lone_at answer f r) (old_lone_at answer f (r + 1)) old) where
   -- a node sends what it sent, where it doesn't change
@@ -78,17 +103,31 @@ module _ (answer : Answer) (f : Frame) (r : ℕ) (touched : ℕ → Bool) (lists
   still-sent arcs changes u e low has off = ap (λ (v : Val). sent_by f.program.now f.graph.now u v (outdeg arcs u) e)
       (unchanged-at (count_in f) (lone answer f.program.now f.graph.now arcs r) (lone answer f.program.now f.graph.now arcs (r + 1)) changes u low has off)
 
+  -- a node whose flag is right sends the same in both views without it
+  settled-tells : (u : ℕ) (flag : Bool) → u < count_in f → f.first ≡ false → IsSettled f lists u flag → flag ≡ false → (e : ℕ)
+      → sent_in answer f.program.now f.graph.now (new_arcs f) (r + 1) u e ≡ sent_in answer f.program.now f.graph.now (arcs_in f.rows.now.by_head f.old.now) (r + 1) u e
+  settled-tells u flag low first (inl right) unset e = flag-tells answer f (r + 1) (was_touched_at answer f (r + 1)) lists at u flag low first right unset e
+  settled-tells u flag low first (inr none) unset e =
+      let p = f.program.now in
+      let graph = f.graph.now in
+      let now = lone_at answer f (r + 1) in
+      let before = old_lone_at answer f (r + 1) in
+      let agree = untouched-agree answer f (r + 1) lists lists.touched.items lists.old_now.items lists.old_before.items lists.new_now.items lists.new_before.items (omega arith) at refl refl refl refl refl first u low none.1 in
+      let same : value_at now u ≡ value_at before u = sym (ap (λ (vs : List Val). value_at vs u) at.new_now.values_are) ∙ sym (agree.0) ∙ ap (λ (vs : List Val). value_at vs u) (at.old_now first).values_are in
+      ap (λ (v : Val). sent_by p graph u v (outdeg (new_arcs f) u) e) same
+      ∙ frame.degree none.0 (send_words graph u (value_at before u) 0 e) (outdeg (new_arcs f) u) (outdeg (arcs_in f.rows.now.by_head f.old.now) u)
+
   module _ (was mid next : Told) (told : StandsTold answer f r was)
-      (apart : AreSet (IsFlagged f lists) false new was.apart.items mid.apart.items) (moved : AreSet (λ u to. to ≡ r + 1) 0 new was.moved.items mid.moved.items)
-      (parted : AreSet (IsFlagged f lists) false old mid.apart.items next.apart.items) (kept : next.moved ≡ mid.moved) (turned : next.turned ≡ was.turned) where
+      (apart : AreSet (IsSettled f lists) false new was.apart.items mid.apart.items) (moved : AreSet (λ u to. to ≡ r + 1) 0 new was.moved.items mid.moved.items)
+      (parted : AreSet (IsSettled f lists) false old mid.apart.items next.apart.items) (kept : next.moved ≡ mid.moved) (turned : next.turned ≡ was.turned) where
     apart-next : f.first ≡ false → (u e : ℕ) → u < count_in f → get_or next.apart.items u false ≡ false
         → sent_in answer f.program.now f.graph.now (new_arcs f) (r + 1) u e ≡ sent_in answer f.program.now f.graph.now (arcs_in f.rows.now.by_head f.old.now) (r + 1) u e
     apart-next first u e low unset = elim (cases_Bool (is_changed u old)) [
-      | inl listed ↦ flag-tells answer f (r + 1) touched lists at u (get_or next.apart.items u false) low first (parted.right u listed) unset e
+      | inl listed ↦ settled-tells u (get_or next.apart.items u false) low first (parted.right u listed) unset e
       | inr off ↦
           let before : get_or mid.apart.items u false ≡ false = sym (parted.others u off) ∙ unset in
           elim (cases_Bool (is_changed u new)) [
-            | inl listed ↦ flag-tells answer f (r + 1) touched lists at u (get_or mid.apart.items u false) low first (apart.right u listed) before e
+            | inl listed ↦ settled-tells u (get_or mid.apart.items u false) low first (apart.right u listed) before e
             | inr out ↦ still-sent (new_arcs f) new u e low news out ∙ told.apart first u e low (sym (apart.others u out) ∙ before)
                 ∙ sym (still-sent (arcs_in f.rows.now.by_head f.old.now) old u e low (olds first) off)
           ]
@@ -116,9 +155,8 @@ module _ (answer : Answer) (f : Frame) (r : ℕ) (touched : ℕ → Bool) (lists
     told-next = record {
       apart_size = parted.size ∙ apart.size ∙ told.apart_size;
       moved_size = ap (λ v. length v.items) kept ∙ moved.size ∙ told.moved_size;
-      turned_size = ap (λ v. length v.items) turned ∙ told.turned_size;
       apart = apart-next;
       moved_past = past-next;
       moved = λ later u low stays. moved-next u low stays;
-      turned = λ first. subst (λ v. All (λ a. get_or v.items a.head.0 false ≡ false → in_view f.new.now a ≡ in_view f.old.now a) f.rows.now.by_head) (sym turned) (told.turned first);
+      turned = subst (λ t. TellTurned (λ a. a.head.0) f.graph.now f.rows.now.by_head f.first f.old.now f.new.now t) (sym turned) told.turned;
     }

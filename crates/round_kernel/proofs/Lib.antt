@@ -32,3 +32,4 @@ pub mod Numbered
 pub mod Spanning
 pub mod Picked
 pub mod Proper
+pub mod Turning

@@ -132,6 +132,7 @@ module _ (answer : Answer) (f : Frame) (r : ℕ) where
     marked_size = size;
     watched_size = u.watched_size;
     watched_are = u.watched_are;
+    turned_are = u.turned_are;
     keeps = u.keeps;
     new_sent = u.new_sent;
     queue = u.queue;
@@ -157,6 +158,7 @@ module _ (answer : Answer) (f : Frame) (r : ℕ) where
     marked_size = u.marked_size;
     watched_size = u.watched_size;
     watched_are = u.watched_are;
+    turned_are = u.turned_are;
     keeps = u.keeps;
     new_sent = kns;
     queue = u.queue;

@@ -38,6 +38,7 @@ module _ (answer : Answer) (f : Frame) (r : ℕ) where
     marked_size = u.marked_size;
     watched_size = u.watched_size;
     watched_are = u.watched_are;
+    turned_are = u.turned_are;
     keeps = u.keeps;
     new_sent = u.new_sent;
     queue = h;
@@ -58,6 +59,7 @@ module _ (answer : Answer) (f : Frame) (r : ℕ) where
     marked_size = u.marked_size;
     watched_size = u.watched_size;
     watched_are = u.watched_are;
+    turned_are = u.turned_are;
     keeps = u.keeps;
     new_sent = u.new_sent;
     queue = u.queue;
@@ -82,6 +84,7 @@ module _ (answer : Answer) (f : Frame) (r : ℕ) where
     marked_size = u.marked_size;
     watched_size = u.watched_size;
     watched_are = u.watched_are;
+    turned_are = u.turned_are;
     keeps = u.keeps;
     new_sent = u.new_sent;
     queue = u.queue;

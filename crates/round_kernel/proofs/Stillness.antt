@@ -1,7 +1,7 @@
 -- Where no tail sends something else and no arc is turned, a node gets the same.
 use Rattle.std.proofs.Common.{◌≡◌, ◌∙◌, ◌<◌, ◌-◌, ◌∷◌, [], sym, ap, subst, refl, ℕ, Bool, true, false, List, get_or, map, filter, inl, inr}
 use Rattle.std.specs.Prelude.{All, ◌==◌, ◌||◌, not}
-use Rattle.std.proofs.lemmas.Bool.{cases_Bool, eqb-true, eq-eqb, false≢true}
+use Rattle.std.proofs.lemmas.Bool.{cases_Bool, eq-eqb, false≢true}
 use Rattle.std.proofs.lemmas.List.Elements.{All-head, All-tail, All-cons, All-nil}
 use Rattle.graph_model.specs.declared.value.Val.{Val}
 use Rattle.graph_model.specs.GraphData.{GraphData}
@@ -76,22 +76,16 @@ module _ (answer : Answer) (p : Program) (graph : GraphData) (all : List Arc) (f
   to_node a = a.head.0 == v
 
   -- in both views
-  pub same-views : first ≡ false → get_or told.turned.items v false ≡ false → (row : List Arc) → row ≡ row_of all v → All (λ a. get_or told.apart.items a.tail.0 false ≡ false) row
+  pub same-views : first ≡ false → All (λ a. to_node a ≡ true → in_view new a ≡ in_view old a) all → (row : List Arc) → row ≡ row_of all v → All (λ a. get_or told.apart.items a.tail.0 false ≡ false) row
       → got_values answer p graph (arcs_in all new) v r ≡ got_values answer p graph (arcs_in all old) v r
   same-views one none row e still =
       let now = carried p graph (arcs_in all new) (lone answer p graph (arcs_in all new) r) in
       let before = carried p graph (arcs_in all old) (lone answer p graph (arcs_in all old) r) in
       let each = of-chosen (λ (a : Arc). get_or told.apart.items a.tail.0 false ≡ false) to_node all (subst (λ (xs : List Arc). All (λ a. get_or told.apart.items a.tail.0 false ≡ false) xs) e still) in
       ap (λ (ms : List Val). filter is_sent ms) (same-list to_node (in_view new) (in_view old) now before all (λ k d low. record {
-        view = λ h. is.turned one k d low (ap (λ n. get_or told.turned.items n false) (eqb-true (get_or all k d).head.0 v h) ∙ none);
+        view = λ h. none k d low h;
         carries = λ h. is.apart one (get_or all k d).tail.0 (get_or all k d).edge.0 (arcs k d low).tail (each k d low h);
       }))
-
-  -- each arc to the node is in both views or in none
-  pub views-same : first ≡ false → get_or told.turned.items v false ≡ false → (row : List Arc) → row ≡ row_of all v → All (λ a. in_view new a ≡ in_view old a) row
-  views-same one none row e = subst (λ (xs : List Arc). All (λ a. in_view new a ≡ in_view old a) xs) (sym e)
-      (All-filtered (λ (a : Arc). get_or told.turned.items a.head.0 false ≡ false → in_view new a ≡ in_view old a) (λ a. in_view new a ≡ in_view old a) to_node
-      (λ a h k. k (ap (λ n. get_or told.turned.items n false) (eqb-true a.head.0 v h) ∙ none)) all (is.turned one))
 
   -- in two rounds of the new view
   pub same-rounds : 0 < r → (row : List Arc) → row ≡ row_of all v → All (λ a. (get_or told.moved.items a.tail.0 0 == r) ≡ false) row

@@ -17,7 +17,6 @@ use Rattle.vertex_lang.specs.declared.arc.Arc.{Arc}
 use Rattle.round_kernel.specs.declared.queue.Queue.{Queue}
 use Rattle.round_kernel.specs.Histories.{is_listed}
 use Rattle.round_kernel.specs.Queues.{waits, IsQueue, StillWait, AllHear, DegreeAgrees}
-use Rattle.round_kernel.specs.Sides.{IsTurned}
 use Rattle.round_kernel.specs.Made.{mark_if}
 
 pub clash : (b : Bool) → b ≡ false → b ≡ true → ⊥
@@ -28,11 +27,11 @@ or-left : (a b : Bool) → a ≡ true → (a || b) ≡ true
 or-left true b e = refl
 or-left false b e = absurd cc
 
-or-right : (a b : Bool) → b ≡ true → (a || b) ≡ true
+pub or-right : (a b : Bool) → b ≡ true → (a || b) ≡ true
 or-right true b e = refl
 or-right false b e = e
 
-or-first : (a b : Bool) → (a || b) ≡ true → b ≡ false → a ≡ true
+pub or-first : (a b : Bool) → (a || b) ≡ true → b ≡ false → a ≡ true
 or-first true b e f = refl
 or-first false b e f = absurd (clash b f e)
 
@@ -160,17 +159,11 @@ module _ (arcs : List Arc) (i : ℕ) (d : Arc) (low : i < length arcs) (q q' : Q
   pub heads-more : StillWait q q' → All (λ a. waits q a.head.0 ≡ true) (take i arcs) → waits q' (get_or arcs i d).head.0 ≡ true → All (λ a. waits q' a.head.0 ≡ true) (take (i + 1) arcs)
   heads-more s all here = more-of (λ (a : Arc). waits q a.head.0 ≡ true) (λ (a : Arc). waits q' a.head.0 ≡ true) arcs i d low (λ a h. s.still a.head.0 h) all here
 
-  pub turned-more : (old new : List Bool) → StillWait q q' → All (λ a. IsTurned old new a → waits q a.head.0 ≡ true) (take i arcs) → (IsTurned old new (get_or arcs i d) → waits q' (get_or arcs i d).head.0 ≡ true) → All (λ a. IsTurned old new a → waits q' a.head.0 ≡ true) (take (i + 1) arcs)
-  turned-more old new s all here = more-of (λ (a : Arc). IsTurned old new a → waits q a.head.0 ≡ true) (λ (a : Arc). IsTurned old new a → waits q' a.head.0 ≡ true) arcs i d low (λ a h t. s.still a.head.0 (h t)) all here
-
 -- a row is heard where all its heads wait
 pub row-hears : (arcs row : List Arc) (u : ℕ) (q : Queue) → row ≡ filter (λ a. a.tail.0 == u) arcs → All (λ a. waits q a.head.0 ≡ true) row → AllHear arcs q u
 row-hears arcs row u q e all = filtered arcs (subst (λ (xs : List Arc). All (λ a. waits q a.head.0 ≡ true) xs) e all) where
   filtered : (xs : List Arc) → All (λ a. waits q a.head.0 ≡ true) (filter (λ a. a.tail.0 == u) xs) → All (λ a. a.tail.0 ≡ u → waits q a.head.0 ≡ true) xs
   filtered xs each = All-of-filter (λ (a : Arc). a.tail.0 == u) (λ (a : Arc). a.tail.0 ≡ u) (λ (a : Arc). waits q a.head.0 ≡ true) (λ a h. eq-eqb a.tail.0 u h) xs each
-
-pub row-hears-turned : (old new : List Bool) (arcs row : List Arc) (u : ℕ) (q : Queue) → row ≡ filter (λ a. a.tail.0 == u) arcs → All (λ a. IsTurned old new a → waits q a.head.0 ≡ true) row → All (λ a. a.tail.0 ≡ u → IsTurned old new a → waits q a.head.0 ≡ true) arcs
-row-hears-turned old new arcs row u q e all = All-of-filter (λ (a : Arc). a.tail.0 == u) (λ (a : Arc). a.tail.0 ≡ u) (λ (a : Arc). IsTurned old new a → waits q a.head.0 ≡ true) (λ a h. eq-eqb a.tail.0 u h) arcs (subst (λ (xs : List Arc). All (λ a. IsTurned old new a → waits q a.head.0 ≡ true) xs) e all)
 
 pub marks-more : (marks : List NodeNo) (i : ℕ) (d : NodeNo) → i < length marks → (q q' : Queue) (touched : List Bool) → StillWait q q' → All (λ n. get_or touched n.0 false ≡ true → waits q n.0 ≡ true) (take i marks)
     → (get_or touched (get_or marks i d).0 false ≡ true → waits q' (get_or marks i d).0 ≡ true) → All (λ n. get_or touched n.0 false ≡ true → waits q' n.0 ≡ true) (take (i + 1) marks)

@@ -1,5 +1,5 @@
 -- What is set, node by node, of which nodes may send something else in two views.
-use Rattle.std.specs.Prelude.{◌≡◌, ℕ, Bool, true, false, List, length, get_or}
+use Rattle.std.specs.Prelude.{◌≡◌, ◌⊎◌, ℕ, Bool, true, false, List, length, get_or}
 use Rattle.vertex_lang.specs.Expressions.{sent_by}
 use Rattle.vertex_lang.specs.Rounds.{value_at}
 use Rattle.round_kernel.specs.declared.history.Change.{Change}
@@ -13,8 +13,13 @@ IsFlagged f lists u flag = flag ≡ false → (e : ℕ)
     → sent_by f.program.now f.graph.now u (value_at lists.old_now.items u) (get_or lists.old_degrees.items u 0) e
     ≡ sent_by f.program.now f.graph.now u (value_at lists.new_now.items u) (get_or lists.new_degrees.items u 0) e
 
+-- the same; or the node was never touched, and the message doesn't depend on how many arcs leave it
+abbrev pub IsSettled : Frame → Lists → ℕ → Bool → Type 0
+IsSettled f lists u flag = IsFlagged f lists u flag ⊎ ((f.by_degree ≡ false) × (get_or lists.touched.items u false ≡ false))
+
 -- there is a value and a number of arcs of each node, of so many, in both views
 pub record AreLong (count : ℕ) (lists : Lists) : Type 0 where
+  pub touched : length lists.touched.items ≡ count
   pub old_values : length lists.old_now.items ≡ count
   pub new_values : length lists.new_now.items ≡ count
   pub old_degrees : length lists.old_degrees.items ≡ count

@@ -20,3 +20,4 @@ pub mod Feeds
 pub mod Aiding
 pub mod Spans
 pub mod Places
+pub mod TurnedArcs

@@ -8,6 +8,7 @@ use Rattle.vertex_lang.specs.Rounds.{nodes_of}
 use Rattle.lone_work.specs.Work.{touched_before}
 use Rattle.round_kernel.specs.declared.round.Lists.{Lists}
 use Rattle.round_kernel.specs.Sides.{IsTurned, arcs_in, AreSent, MayKeep, IsSized, IsRound}
+use Rattle.round_kernel.specs.TurnedArcs.{TellTurned}
 use Rattle.round_kernel.specs.Queues.{IsQueue, waits}
 
 -- the view before, if there's one
@@ -29,6 +30,7 @@ pub record AreAt (answer : Answer) (p : Program) (graph : GraphData) (all : List
   pub marked_size : length lists.marked.items ≡ length graph.ids
   pub watched_size : length lists.watched.items ≡ length graph.ids
   pub watched_are : first ≡ false → All (λ a. IsTurned old new a → get_or lists.watched.items a.tail.0 false ≡ true) all
+  pub turned_are : TellTurned (λ a. a.tail.0) graph all first old new lists.turned
   pub keeps : MayKeep lists.alike p graph
   pub new_sent : AreSent lists.alike p graph lists.new_degrees.items lists.new_now.items lists.new_sent.items
   pub queue : IsQueue (length graph.ids) lists.queue

@@ -1,5 +1,5 @@
 -- Which nodes may send something else in two rounds.
-use Rattle.std.specs.Prelude.{◌≡◌, ◌≢◌, ◌==◌, ◌<◌, ◌≤◌, ◌-◌, ℕ, Bool, false, List, length, get_or, All}
+use Rattle.std.specs.Prelude.{◌≡◌, ◌≢◌, ◌==◌, ◌<◌, ◌≤◌, ◌-◌, ℕ, Bool, false, List, length, get_or}
 use Rattle.graph_model.specs.declared.value.Val.{Val}
 use Rattle.graph_model.specs.GraphData.{GraphData}
 use Rattle.vertex_lang.specs.declared.arc.Arc.{Arc}
@@ -11,22 +11,22 @@ use Rattle.round_kernel.specs.declared.round.Frame.{Frame}
 use Rattle.round_kernel.specs.declared.told.Told.{Told}
 use Rattle.round_kernel.specs.declared.told.Movers.{Movers}
 use Rattle.round_kernel.specs.declared.told.Movers.TheVariants as movers
-use Rattle.round_kernel.specs.Sides.{in_view, arcs_in}
+use Rattle.round_kernel.specs.Sides.{arcs_in}
+use Rattle.round_kernel.specs.TurnedArcs.{TellTurned}
 
 -- the message of a node along an edge in a round of the plain run over these arcs
 abbrev pub sent_in : Answer → Program → GraphData → List Arc → ℕ → ℕ → ℕ → Val
 sent_in answer p graph arcs r u e = sent_by p graph u (value_at (lone answer p graph arcs r) u) (outdeg arcs u) e
 
 -- a node that isn't told apart sends the same in both views; one that hasn't moved has the value of the round before; and
--- all arcs into a node to which none is turned are in both views or in none
+-- the arcs that are turned are told
 pub record IsTold (answer : Answer) (p : Program) (graph : GraphData) (all : List Arc) (first : Bool) (old new : List Bool) (r : ℕ) (told : Told) : Type 0 where
   pub apart_size : length told.apart.items ≡ length graph.ids
   pub moved_size : length told.moved.items ≡ length graph.ids
-  pub turned_size : length told.turned.items ≡ length graph.ids
   pub apart : first ≡ false → (u e : ℕ) → u < length graph.ids → get_or told.apart.items u false ≡ false → sent_in answer p graph (arcs_in all new) r u e ≡ sent_in answer p graph (arcs_in all old) r u e
   pub moved_past : (u : ℕ) → get_or told.moved.items u 0 ≤ r
   pub moved : 0 < r → (u : ℕ) → u < length graph.ids → get_or told.moved.items u 0 ≢ r → value_at (lone answer p graph (arcs_in all new) r) u ≡ value_at (lone answer p graph (arcs_in all new) (r - 1)) u
-  pub turned : first ≡ false → All (λ a. get_or told.turned.items a.head.0 false ≡ false → in_view new a ≡ in_view old a) all
+  pub turned : TellTurned (λ a. a.head.0) graph all first old new told.turned
 
 -- the same of a step
 abbrev pub StandsTold : Answer → Frame → ℕ → Told → Type 0

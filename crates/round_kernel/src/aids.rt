@@ -59,7 +59,7 @@ impl Aids {
         ensures aided { OnOk result (StandsAided U.answer frame.entry round self.new) }
     {
         self.visits = self.visits.saturating_add(count);
-        if self.visits < frame.graph.node_count() as usize {
+        if self.visits < frame.graph.node_count() as usize / 8 {
             return Ok(());
         }
         let feed = mem::replace(&mut self.feed, Feed::Nothing);

@@ -24,6 +24,7 @@ mod span;
 mod step;
 mod tally;
 mod told;
+mod turned;
 mod values;
 mod visit;
 

@@ -1,6 +1,6 @@
 //! What an arc brings in a round of a view.
 
-ghost use Rattle.std.specs.Prelude.{MatchBool, ℕ, ◌≢◌, ◌≡◌, ◌<◌, ◌^◌, ◌++◌, not, false, List, length, get_or, fold, filter, All, IfOk, OnOk, IsTrue, IsFalse, [], ◌∷◌};
+ghost use Rattle.std.specs.Prelude.{MatchBool, ℕ, ◌≢◌, ◌≡◌, ◌<◌, ◌^◌, ◌++◌, not, false, List, length, get_or, fold, filter, All, Contains, IfOk, OnOk, IsTrue, IsFalse, [], ◌∷◌};
 ghost use Rattle.graph_model.specs.declared.value.Val.{Val};
 ghost use Rattle.vertex_lang.specs.Leaves.{IsChecked};
 ghost use Rattle.vertex_lang.specs.Arcs.{IsArc, is_sent};
@@ -10,7 +10,7 @@ ghost use Rattle.graph_model.specs.declared.value.Val.TheVariants.{Nil};
 ghost use Rattle.vertex_lang.specs.Values.{lesser};
 ghost use Rattle.vertex_lang.specs.Rounds.{value_at};
 ghost use Rattle.vertex_lang.specs.Expressions.{sent_by};
-ghost use Rattle.round_kernel.specs.Sides.{in_view, brings, all_brought, AreSent, IsSized, AreLeft};
+ghost use Rattle.round_kernel.specs.Sides.{in_view, IsTurned, brings, all_brought, AreSent, IsSized, AreLeft};
 ghost use Rattle.round_kernel.specs.Telling.{InMovers, AreStill, moves};
 ghost use Rattle.round_kernel.specs.Tallies.{tally_of};
 
@@ -18,6 +18,7 @@ use crate::numbers::{step_column, stepped};
 use crate::sent::send;
 use crate::tally::{Tally, lesser_of};
 use crate::told::Movers;
+use crate::turned::has_edge;
 use graph_model::{Graph, Val};
 use multisets::are_one_multiset;
 use surge_outside::NoMemory;
@@ -108,13 +109,13 @@ pub(crate) fn tally(program: &Program, graph: &Graph, side: Side<'_>, row: &[Arc
 }
 
 /// Whether these arcs bring different messages in two rounds, as multisets, where it is told which nodes may send
-/// something else, and whether one of the arcs may be in one of two views alone.
+/// something else, and which of the arcs may be in one of two views alone.
 pub(crate) fn differ(
     program: &Program,
     graph: &Graph,
     left: Side<'_>,
     right: Side<'_>,
-    turned: bool,
+    turned: &[Arc],
     movers: Movers<'_>,
     row: &[Arc],
     scratch: &mut Scratch,
@@ -125,7 +126,7 @@ pub(crate) fn differ(
     requires right { IsSized graph.now right.edges.now right.degrees.now right.values.now }
     requires movers { (u : ℕ) → u < length graph.now.ids → InMovers movers u }
     requires still { AreStill program.now graph.now movers left.degrees.now left.values.now right.degrees.now right.values.now }
-    requires turned { turned ≡ false → All (λ a. in_view left.edges.now a ≡ in_view right.edges.now a) row.now }
+    requires turned { All (λ a. IsTurned left.edges.now right.edges.now a → Contains turned.now a) row.now }
     requires left_sent { AreSent left.alike program.now graph.now left.degrees.now left.values.now left.sent.now }
     requires right_sent { AreSent right.alike program.now graph.now right.degrees.now right.values.now right.sent.now }
     ensures { IfOk result (λ b. b ≡ not (are_one same_value
@@ -179,7 +180,7 @@ fn fill(
     graph: &Graph,
     left: Side<'_>,
     right: Side<'_>,
-    turned: bool,
+    turned: &[Arc],
     movers: Movers<'_>,
     row: &[Arc],
     first: &mut Vec<Val>,
@@ -191,7 +192,7 @@ fn fill(
     requires right { IsSized graph.now right.edges.now right.degrees.now right.values.now }
     requires movers { (u : ℕ) → u < length graph.now.ids → InMovers movers u }
     requires still { AreStill program.now graph.now movers left.degrees.now left.values.now right.degrees.now right.values.now }
-    requires turned { turned ≡ false → All (λ a. in_view left.edges.now a ≡ in_view right.edges.now a) row.now }
+    requires turned { All (λ a. IsTurned left.edges.now right.edges.now a → Contains turned.now a) row.now }
     requires left_sent { AreSent left.alike program.now graph.now left.degrees.now left.values.now left.sent.now }
     requires right_sent { AreSent right.alike program.now graph.now right.degrees.now right.values.now right.sent.now }
     requires first { first.old.items ≡ [] }
@@ -214,7 +215,7 @@ fn push_both(
     graph: &Graph,
     left: Side<'_>,
     right: Side<'_>,
-    turned: bool,
+    turned: &[Arc],
     movers: Movers<'_>,
     arc: Arc,
     first: &mut Vec<Val>,
@@ -226,7 +227,7 @@ fn push_both(
     requires right { IsSized graph.now right.edges.now right.degrees.now right.values.now }
     requires movers { (u : ℕ) → u < length graph.now.ids → InMovers movers u }
     requires still { AreStill program.now graph.now movers left.degrees.now left.values.now right.degrees.now right.values.now }
-    requires turned { turned ≡ false → in_view left.edges.now arc ≡ in_view right.edges.now arc }
+    requires turned { IsTurned left.edges.now right.edges.now arc → Contains turned.now arc }
     requires left_sent { AreSent left.alike program.now graph.now left.degrees.now left.values.now left.sent.now }
     requires right_sent { AreSent right.alike program.now graph.now right.degrees.now right.values.now right.sent.now }
     ensures { OnOk result ((all more : List Val) → AreLeft first.old.items second.old.items all more → AreLeft first.new.items second.new.items
@@ -247,16 +248,30 @@ fn push_both(
 
 // Whether an arc may bring something else in one round than in the other: where its tail may send something else, or
 // its edge is in one of the two views alone.
-fn may_differ(left: Side<'_>, right: Side<'_>, turned: bool, movers: Movers<'_>, arc: Arc) -> bool
+fn may_differ(left: Side<'_>, right: Side<'_>, turned: &[Arc], movers: Movers<'_>, arc: Arc) -> bool
     requires movers { InMovers movers arc.tail.0 }
     requires left_edges { arc.edge.0 < length left.edges.now }
     requires right_edges { arc.edge.0 < length right.edges.now }
-    requires turned { turned ≡ false → in_view left.edges.now arc ≡ in_view right.edges.now arc }
+    requires turned { IsTurned left.edges.now right.edges.now arc → Contains turned.now arc }
     ensures edges { IsFalse result → in_view left.entry.edges.now arc ≡ in_view right.entry.edges.now arc }
     ensures tail { IsFalse result → moves movers.entry arc.tail.0 ≡ false }
 {
-    let edge = arc.edge.0 as usize;
-    movers.moves(arc.tail) || turned && left.edges[edge] != right.edges[edge]
+    movers.moves(arc.tail) || is_turned(left.edges, right.edges, turned, arc)
+}
+
+// Whether the edge of an arc is in one of two views alone, given the arcs for which it may be so. Where they are few they
+// are near at hand, and the views are not looked at.
+fn is_turned(left: &[bool], right: &[bool], turned: &[Arc], arc: Arc) -> bool
+    requires left { arc.edge.0 < length left.now }
+    requires right { arc.edge.0 < length right.now }
+    requires told { IsTurned left.now right.now arc → Contains turned.now arc }
+    ensures { IsFalse result → in_view left.now arc ≡ in_view right.now arc }
+{
+    if turned.len() > 8 {
+        let edge = arc.edge.0 as usize;
+        return left[edge] != right[edge];
+    }
+    has_edge(turned, arc.edge)
 }
 
 // Adds a message. None is not sent.

@@ -1,15 +1,17 @@
 //! Which nodes may send something else in two rounds: in those of two views, or in a round and the one before it.
 
-ghost use Rattle.std.specs.Prelude.{◌≡◌, ◌<◌, ◌+◌, true, false, length, get_or, All, IfOk, IsTrue};
+ghost use Rattle.std.specs.Prelude.{◌≡◌, ◌<◌, ◌+◌, ◌==◌, ◌≢◌, ℕ, true, false, filter, length, get_or, All, IfOk, IsTrue};
 ghost use Rattle.vertex_lang.specs.Ignoring.{IgnoresOutdeg};
 ghost use Rattle.round_kernel.specs.Frames.{IsFrame, StandAt, count_in, lone_at, old_lone_at, was_touched_at};
 ghost use Rattle.round_kernel.specs.Histories.{HasChanges};
 ghost use Rattle.round_kernel.specs.Telling.{StandsTold, InMovers, moves};
-ghost use Rattle.round_kernel.specs.Flags.{IsFlagged, AreLong, AreSet};
+ghost use Rattle.round_kernel.specs.Flags.{IsFlagged, IsSettled, AreLong, AreSet};
+ghost use Rattle.round_kernel.specs.RowLists.{IsGrouped};
 
 use crate::history::Change;
 use crate::message::is_other;
 use crate::round::{Frame, Lists};
+use crate::turned::Turned;
 use graph_model::NodeNo;
 use std::alloc::Global;
 use surge_outside::NoMemory;
@@ -22,8 +24,8 @@ pub(crate) struct Told {
     pub(crate) apart: Vec<bool>,
     /// The last round to which its value changed in the new view, and 0 where it never did.
     pub(crate) moved: Vec<u32>,
-    /// Whether an arc comes to it that is in one of the two views alone.
-    pub(crate) turned: Vec<bool>,
+    /// The arcs of all edges that are in one of the two views alone, by head.
+    pub(crate) turned: Turned,
 }
 
 impl Told {
@@ -44,7 +46,7 @@ impl Told {
             apart.push(is_apart(frame, lists, NodeNo(node)))?;
         }
         let moved = vec![in alloc; 0u32; count as usize]?;
-        let turned = heads_of(alloc, count as usize, frame.turned)?;
+        let turned = Turned::new(alloc, count, frame.turned, true)?;
         Ok(Told {
             apart,
             moved,
@@ -52,12 +54,13 @@ impl Told {
         })
     }
 
-    /// Whether an arc comes to a node that is in one of the two views alone.
-    pub(crate) fn is_turned(&self, node: NodeNo) -> bool
-        requires { node.0 < length self.now.turned.items }
-        ensures { result ≡ get_or self.now.turned.items node.0 false }
+    /// The arcs to a node that are in one of the two views alone.
+    pub(crate) fn turned_into(&self, node: NodeNo) -> &[Arc]
+        requires grouped { IsGrouped (λ a. a.head.0) self.now.turned.arcs self.now.turned.ends (length self.now.turned.ends) }
+        requires node { node.0 < length self.now.turned.ends }
+        ensures { result.now ≡ filter (λ a. a.head.0 == node.0) self.now.turned.arcs }
     {
-        self.turned[node.0 as usize]
+        self.turned.coming_to(node)
     }
 
     /// One round on, given what changes to it in the new view and in the view before, and the lists as they stand in
@@ -92,7 +95,7 @@ impl Told {
         requires degree { frame.by_degree ≡ false → IgnoresOutdeg frame.program.now.send }
         requires apart { length self.old.apart.items ≡ count_in frame }
         requires moved { length self.old.moved.items ≡ count_in frame }
-        ensures apart { AreSet (IsFlagged frame.entry lists.now) false changes.now
+        ensures apart { AreSet (IsSettled frame.entry lists.now) false changes.now
             self.old.apart.items self.new.apart.items }
         ensures moved { AreSet (λ u to. to ≡ round) 0 changes.now self.old.moved.items self.new.moved.items }
         ensures turned { self.new.turned ≡ self.old.turned }
@@ -100,7 +103,7 @@ impl Told {
         for change in changes {
             let place = change.node.0 as usize;
             self.moved[place] = round;
-            self.apart[place] = is_apart(frame, lists, change.node);
+            self.flag(frame, lists, change.node);
         }
     }
 
@@ -110,13 +113,32 @@ impl Told {
         requires long { AreLong (count_in frame) lists.now }
         requires degree { frame.by_degree ≡ false → IgnoresOutdeg frame.program.now.send }
         requires apart { length self.old.apart.items ≡ count_in frame }
-        ensures apart { AreSet (IsFlagged frame.entry lists.now) false changes.now
+        ensures apart { AreSet (IsSettled frame.entry lists.now) false changes.now
             self.old.apart.items self.new.apart.items }
         ensures moved { self.new.moved ≡ self.old.moved }
         ensures turned { self.new.turned ≡ self.old.turned }
     {
         for change in changes {
-            self.apart[change.node.0 as usize] = is_apart(frame, lists, change.node);
+            self.flag(frame, lists, change.node);
+        }
+    }
+
+    // Whether a node that changes may send something else in both views. One that was never touched has the same value in
+    // both, so it sends the same unless the message depends on how many arcs leave it.
+    fn flag(&mut self, frame: Frame<'_>, lists: &Lists, node: NodeNo)
+        requires node { node.0 < count_in frame }
+        requires long { AreLong (count_in frame) lists.now }
+        requires degree { frame.by_degree ≡ false → IgnoresOutdeg frame.program.now.send }
+        requires apart { length self.old.apart.items ≡ count_in frame }
+        ensures size { length self.new.apart.items ≡ length self.old.apart.items }
+        ensures right { IsSettled frame.entry lists.now node.0 (get_or self.new.apart.items node.0 false) }
+        ensures others { (u : ℕ) → u ≢ node.0 → get_or self.new.apart.items u false ≡ get_or self.old.apart.items u false }
+        ensures moved { self.new.moved ≡ self.old.moved }
+        ensures turned { self.new.turned ≡ self.old.turned }
+    {
+        let place = node.0 as usize;
+        if frame.by_degree || lists.touched[place] {
+            self.apart[place] = is_apart(frame, lists, node);
         }
     }
 }
@@ -133,19 +155,6 @@ fn is_apart(frame: Frame<'_>, lists: &Lists, node: NodeNo) -> bool
         return true;
     }
     frame.by_degree && lists.old_degrees[place] != lists.new_degrees[place]
-}
-
-// The heads of these arcs.
-fn heads_of(alloc: Global, size: usize, arcs: &[Arc]) -> Result<Vec<bool>, NoMemory>
-    requires { All (λ a. a.head.0 < size) arcs.now }
-    ensures size { IfOk result (λ heads. length heads.items ≡ size) }
-    ensures heads { IfOk result (λ heads. All (λ a. get_or heads.items a.head.0 false ≡ true) arcs.now) }
-{
-    let mut heads = vec![in alloc; false; size]?;
-    for arc in arcs {
-        heads[arc.head.0 as usize] = true;
-    }
-    Ok(heads)
 }
 
 /// The nodes that may send something else in the one of two rounds than in the other.

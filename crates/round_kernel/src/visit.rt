@@ -198,10 +198,10 @@ fn is_touched<U: Updater>(
     if either(spot.first, touched) {
         return Ok(true);
     }
-    let turned = aids.told.is_turned(spot.node);
+    let turned = aids.told.turned_into(spot.node);
     let movers = Movers::Views(&aids.told.apart);
     let row = rows.into(spot.node);
-    if !turned && movers.are_still(row) {
+    if turned.is_empty() && movers.are_still(row) {
         return Ok(false);
     }
     let active = differ(
@@ -291,9 +291,7 @@ fn is_other_input<U: Updater>(
         alike: false,
         sent: &[],
     };
-    let marked = differ(
-        program, graph, sides.new, before, false, movers, row, scratch,
-    )?;
+    let marked = differ(program, graph, sides.new, before, &[], movers, row, scratch)?;
     Ok(marked)
 }
 

@@ -1,5 +1,7 @@
 use Rattle.std.proofs.Common.{◌≡◌, ◌∙◌, ◌<◌, false, refl, sym, ap, subst, Bool, List, length, get_or, arith}
 use Rattle.std.specs.Prelude.{All, ◌==◌, ◌||◌}
+use Rattle.std.proofs.lemmas.Bool.{eqb-true}
+use Rattle.std.proofs.lemmas.List.{nil_from_length}
 use Rattle.std.proofs.lemmas.List.Elements.{All-filter, All-weaker}
 use Rattle.vertex_lang.specs.declared.arc.Arc.{Arc}
 use Rattle.vertex_lang.specs.Arcs.{IsArc}
@@ -8,7 +10,8 @@ use Rattle.round_kernel.specs.Sides.{arcs_in, all_brought}
 use Rattle.round_kernel.proofs.Brought.{brought-row}
 use Rattle.round_kernel.proofs.Visits.{touched-yes, touched-test}
 use Rattle.round_kernel.proofs.Feeding.{sent-under}
-use Rattle.round_kernel.proofs.Stillness.{itself, or-first, same-views, views-same}
+use Rattle.round_kernel.proofs.Stillness.{itself, or-first, same-views}
+use Rattle.round_kernel.proofs.Turning.{none-turned, turned-into}
 use Rattle.round_kernel.proofs.visit.is_touched.Goals as goal
 
 pub returns-then-either : goal.returns-then-either
@@ -37,7 +40,8 @@ returns-then-are_still g c =
     (got_values answer p graph (arcs_in all new) v r) (got_values answer p graph (arcs_in all old) v r)
     c.requires.node c.requires.touched neither (λ e. refl) (λ e. refl)
     (itself (got_values answer p graph (arcs_in all new) v r) (got_values answer p graph (arcs_in all old) v r)
-    (same-views answer p graph all c.args.spot.first old new r told c.requires.aided.told c.requires.rows.arcs v (or-first c.args.spot.first c.args.touched neither) (sym c.is_turned-turned.ensures ∙ c.if-not-turned.true) c.into-row.result.now c.into-row.ensures still))
+    (same-views answer p graph all c.args.spot.first old new r told c.requires.aided.told c.requires.rows.arcs v (or-first c.args.spot.first c.args.touched neither)
+    (none-turned graph all c.args.spot.first old new told.turned c.requires.aided.told.turned (or-first c.args.spot.first c.args.touched neither) v c.turned_into-turned.result.now c.turned_into-turned.ensures (nil_from_length c.turned_into-turned.result.now (eqb-true (length c.turned_into-turned.result.now) 0 (sym c.is_empty.ensures ∙ c.if-is_empty.true)))) c.into-row.result.now c.into-row.ensures still))
 
 pub differ-requires-clause-row : goal.differ-requires-clause-row
 differ-requires-clause-row g c = subst (λ (xs : List Arc). All (IsArc c.args.graph.now) xs) (sym c.into-row.ensures) (All-filter (λ (a : Arc). a.head.0 == c.args.spot.node.0) (IsArc c.args.graph.now) c.args.rows.now.by_head c.requires.rows.arcs)
@@ -52,9 +56,10 @@ differ-requires-clause-still g c = λ u e low apart.
     ∙ sym (sent-under g.U.Updater.answer c.args.program.now c.args.graph.now c.args.rows.now.by_head old.edges.now old.degrees.now old.values.now c.args.spot.round (c.requires.old one) u e low)
 
 pub differ-requires-clause-turned : goal.differ-requires-clause-turned
-differ-requires-clause-turned g c = λ none.
+differ-requires-clause-turned g c =
     let one : c.args.spot.first ≡ false = or-first c.args.spot.first c.args.touched (sym c.either.ensures ∙ c.if-either.false) in
-    views-same g.U.Updater.answer c.args.program.now c.args.graph.now c.args.rows.now.by_head c.args.spot.first c.args.sides.old.edges.now c.args.sides.new.edges.now c.args.spot.round c.args.aids.now.told c.requires.aided.told c.requires.rows.arcs c.args.spot.node.0 one (sym c.is_turned-turned.ensures ∙ none) c.into-row.result.now c.into-row.ensures
+    turned-into c.args.graph.now c.args.rows.now.by_head c.args.spot.first c.args.sides.old.edges.now c.args.sides.new.edges.now c.args.aids.now.told.turned c.requires.aided.told.turned one c.args.spot.node.0
+    c.into-row.result.now c.turned_into-turned.result.now c.into-row.ensures c.turned_into-turned.ensures
 
 pub returns : goal.returns
 returns g c =

@@ -13,6 +13,7 @@ use Rattle.round_kernel.specs.Queues.{IsQueue}
 use Rattle.round_kernel.specs.Frames.{count_in}
 use Rattle.round_kernel.proofs.Beginning.{at-start, all-first}
 use Rattle.round_kernel.proofs.Sending.{sent-at}
+use Rattle.round_kernel.proofs.Turning.{told-grouped}
 use Rattle.round_kernel.proofs.round.Lists.new.Goals as goal
 
 pub send_all-requires-clause-size : goal.send_all-requires-clause-size
@@ -42,8 +43,9 @@ returns-clause-at g c =
       touched = c.in_ok-touched.touched;
       marked = c.in_ok-marked.marked;
       watched = c.in_ok-watched.watched;
+      turned = c.in_ok-turned.turned;
       queue = c.in_ok-queue.queue;
-      scratch = record { left = c.new-2.result; right = c.new-3.result };
+      scratch = record { left = c.new-3.result; right = c.new-4.result };
     } in
     let arcs = c.arcs-arcs.ensures in
     let touched : c.in_ok-touched.touched.items ≡ replicate n f.first = c.in_ok-touched.ensures.items_if_clones_equal (λ y e. e) in
@@ -70,6 +72,7 @@ returns-clause-at g c =
     (ap (λ (bs : List Bool). length bs) marked ∙ length-replicate n false ∙ count)
     (c.in_ok-watched.ensures.size ∙ count)
     c.in_ok-watched.ensures.tails
+    (told-grouped (λ (a : Arc). a.tail.0) f.graph.now f.rows.now.by_head f.turned.now f.first f.old.now f.new.now c.in_ok-turned.turned n count c.in_ok-turned.ensures.rows c.in_ok-turned.ensures.same c.requires.arcs c.requires.turned)
     c.may_keep-alike.ensures
     (sent-at lists.alike f.program.now f.graph.now _ _ _ _ _ _ (sym c.deref-6.ensures.value) (sym c.deref-5.ensures.value) refl c.in_ok-new_sent.ensures)
     (subst (λ (k : ℕ). IsQueue k c.in_ok-queue.queue) count c.in_ok-queue.ensures.queue)
