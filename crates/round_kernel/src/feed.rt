@@ -120,7 +120,7 @@ impl Feed {
         program: &Program,
         graph: &Graph,
         rows: &Rows,
-        side: Side<'_>,
+        side: &Side<'_>,
         node: NodeNo,
         round: u32,
         _updater: &U,
@@ -128,10 +128,10 @@ impl Feed {
         requires checked { IsChecked program.now graph.now }
         requires rows { AreRows graph.now rows.now }
         requires node { node.0 < length graph.now.ids }
-        requires side { IsRound U.answer program.now graph.now rows.now.by_head side.edges.now side.degrees.now side.values.now round }
-        requires sent { AreSent side.alike program.now graph.now side.degrees.now side.values.now side.sent.now }
-        requires fed { IsFed U.answer program.now graph.now rows.now.by_head side.edges.now round self.now }
-        ensures { result ≡ tally_of program.now.gather (got_values U.answer program.now graph.now (arcs_in rows.now.by_head side.entry.edges.now) node.0 round) }
+        requires side { IsRound U.answer program.now graph.now rows.now.by_head side.now.edges.now side.now.degrees.now side.now.values.now round }
+        requires sent { AreSent side.now.alike program.now graph.now side.now.degrees.now side.now.values.now side.now.sent.now }
+        requires fed { IsFed U.answer program.now graph.now rows.now.by_head side.now.edges.now round self.now }
+        ensures { result ≡ tally_of program.now.gather (got_values U.answer program.now graph.now (arcs_in rows.now.by_head side.now.edges.now) node.0 round) }
     {
         match self {
             Feed::Messages(numbers, live) => match live {

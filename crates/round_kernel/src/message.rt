@@ -44,12 +44,12 @@ pub(crate) struct Scratch {
 }
 
 /// What an arc brings: none where its edge is not in the view.
-pub(crate) fn message(program: &Program, graph: &Graph, side: Side<'_>, arc: Arc) -> Val
+pub(crate) fn message(program: &Program, graph: &Graph, side: &Side<'_>, arc: Arc) -> Val
     requires checked { IsChecked program.now graph.now }
     requires arc { IsArc graph.now arc }
-    requires sized { IsSized graph.now side.edges.now side.degrees.now side.values.now }
-    requires sent { AreSent side.alike program.now graph.now side.degrees.now side.values.now side.sent.now }
-    ensures { result ≡ brings program.now graph.now side.entry.edges.now side.entry.degrees.now side.entry.values.now arc }
+    requires sized { IsSized graph.now side.now.edges.now side.now.degrees.now side.now.values.now }
+    requires sent { AreSent side.now.alike program.now graph.now side.now.degrees.now side.now.values.now side.now.sent.now }
+    ensures { result ≡ brings program.now graph.now side.now.edges.now side.now.degrees.now side.now.values.now arc }
 {
     if side.edges[arc.edge.0 as usize] {
         send_along(program, graph, side, arc)
@@ -60,12 +60,12 @@ pub(crate) fn message(program: &Program, graph: &Graph, side: Side<'_>, arc: Arc
 
 // What is sent along an arc, whether or not its edge is in the view. Where it is the value and a property of the edge
 // added, it is added here.
-fn send_along(program: &Program, graph: &Graph, side: Side<'_>, arc: Arc) -> Val
+fn send_along(program: &Program, graph: &Graph, side: &Side<'_>, arc: Arc) -> Val
     requires checked { IsChecked program.now graph.now }
     requires arc { IsArc graph.now arc }
-    requires sized { IsSized graph.now side.edges.now side.degrees.now side.values.now }
-    requires sent { AreSent side.alike program.now graph.now side.degrees.now side.values.now side.sent.now }
-    ensures { result ≡ sent_by program.now graph.now arc.tail.0 (value_at side.entry.values.now arc.tail.0) (get_or side.entry.degrees.now arc.tail.0 0) arc.edge.0 }
+    requires sized { IsSized graph.now side.now.edges.now side.now.degrees.now side.now.values.now }
+    requires sent { AreSent side.now.alike program.now graph.now side.now.degrees.now side.now.values.now side.now.sent.now }
+    ensures { result ≡ sent_by program.now graph.now arc.tail.0 (value_at side.now.values.now arc.tail.0) (get_or side.now.degrees.now arc.tail.0 0) arc.edge.0 }
 {
     let tail = arc.tail.0 as usize;
     if side.alike {
@@ -93,13 +93,13 @@ fn kept(sent: &[Val], node: usize) -> Val
 }
 
 /// What all that these arcs bring comes to, in one pass over them.
-pub(crate) fn tally(program: &Program, graph: &Graph, side: Side<'_>, row: &[Arc]) -> Tally
+pub(crate) fn tally(program: &Program, graph: &Graph, side: &Side<'_>, row: &[Arc]) -> Tally
     requires checked { IsChecked program.now graph.now }
     requires row { All (IsArc graph.now) row.now }
     requires few { length row.now < 2 ^ 32 }
-    requires sized { IsSized graph.now side.edges.now side.degrees.now side.values.now }
-    requires sent { AreSent side.alike program.now graph.now side.degrees.now side.values.now side.sent.now }
-    ensures { result ≡ tally_of program.now.gather (all_brought program.now graph.now side.entry.edges.now side.entry.degrees.now side.entry.values.now row.now) }
+    requires sized { IsSized graph.now side.now.edges.now side.now.degrees.now side.now.values.now }
+    requires sent { AreSent side.now.alike program.now graph.now side.now.degrees.now side.now.values.now side.now.sent.now }
+    ensures { result ≡ tally_of program.now.gather (all_brought program.now graph.now side.now.edges.now side.now.degrees.now side.now.values.now row.now) }
 {
     let mut tally = Tally::new();
     for arc in row {
@@ -113,8 +113,8 @@ pub(crate) fn tally(program: &Program, graph: &Graph, side: Side<'_>, row: &[Arc
 pub(crate) fn differ(
     program: &Program,
     graph: &Graph,
-    left: Side<'_>,
-    right: Side<'_>,
+    left: &Side<'_>,
+    right: &Side<'_>,
     turned: &[Arc],
     movers: Movers<'_>,
     row: &[Arc],
@@ -122,16 +122,16 @@ pub(crate) fn differ(
 ) -> Result<bool, NoMemory>
     requires checked { IsChecked program.now graph.now }
     requires row { All (IsArc graph.now) row.now }
-    requires left { IsSized graph.now left.edges.now left.degrees.now left.values.now }
-    requires right { IsSized graph.now right.edges.now right.degrees.now right.values.now }
+    requires left { IsSized graph.now left.now.edges.now left.now.degrees.now left.now.values.now }
+    requires right { IsSized graph.now right.now.edges.now right.now.degrees.now right.now.values.now }
     requires movers { (u : ℕ) → u < length graph.now.ids → InMovers movers u }
-    requires still { AreStill program.now graph.now movers left.degrees.now left.values.now right.degrees.now right.values.now }
-    requires turned { All (λ a. IsTurned left.edges.now right.edges.now a → Contains turned.now a) row.now }
-    requires left_sent { AreSent left.alike program.now graph.now left.degrees.now left.values.now left.sent.now }
-    requires right_sent { AreSent right.alike program.now graph.now right.degrees.now right.values.now right.sent.now }
+    requires still { AreStill program.now graph.now movers left.now.degrees.now left.now.values.now right.now.degrees.now right.now.values.now }
+    requires turned { All (λ a. IsTurned left.now.edges.now right.now.edges.now a → Contains turned.now a) row.now }
+    requires left_sent { AreSent left.now.alike program.now graph.now left.now.degrees.now left.now.values.now left.now.sent.now }
+    requires right_sent { AreSent right.now.alike program.now graph.now right.now.degrees.now right.now.values.now right.now.sent.now }
     ensures { IfOk result (λ b. b ≡ not (are_one same_value
-        (all_brought program.now graph.now left.entry.edges.now left.entry.degrees.now left.entry.values.now row.now)
-        (all_brought program.now graph.now right.entry.edges.now right.entry.degrees.now right.entry.values.now row.now))) }
+        (all_brought program.now graph.now left.now.edges.now left.now.degrees.now left.now.values.now row.now)
+        (all_brought program.now graph.now right.now.edges.now right.now.degrees.now right.now.values.now row.now))) }
 {
     scratch.left.clear();
     scratch.right.clear();
@@ -178,8 +178,8 @@ fn least_of(messages: &[Val]) -> Val
 fn fill(
     program: &Program,
     graph: &Graph,
-    left: Side<'_>,
-    right: Side<'_>,
+    left: &Side<'_>,
+    right: &Side<'_>,
     turned: &[Arc],
     movers: Movers<'_>,
     row: &[Arc],
@@ -188,18 +188,18 @@ fn fill(
 ) -> Result<(), NoMemory>
     requires checked { IsChecked program.now graph.now }
     requires row { All (IsArc graph.now) row.now }
-    requires left { IsSized graph.now left.edges.now left.degrees.now left.values.now }
-    requires right { IsSized graph.now right.edges.now right.degrees.now right.values.now }
+    requires left { IsSized graph.now left.now.edges.now left.now.degrees.now left.now.values.now }
+    requires right { IsSized graph.now right.now.edges.now right.now.degrees.now right.now.values.now }
     requires movers { (u : ℕ) → u < length graph.now.ids → InMovers movers u }
-    requires still { AreStill program.now graph.now movers left.degrees.now left.values.now right.degrees.now right.values.now }
-    requires turned { All (λ a. IsTurned left.edges.now right.edges.now a → Contains turned.now a) row.now }
-    requires left_sent { AreSent left.alike program.now graph.now left.degrees.now left.values.now left.sent.now }
-    requires right_sent { AreSent right.alike program.now graph.now right.degrees.now right.values.now right.sent.now }
+    requires still { AreStill program.now graph.now movers left.now.degrees.now left.now.values.now right.now.degrees.now right.now.values.now }
+    requires turned { All (λ a. IsTurned left.now.edges.now right.now.edges.now a → Contains turned.now a) row.now }
+    requires left_sent { AreSent left.now.alike program.now graph.now left.now.degrees.now left.now.values.now left.now.sent.now }
+    requires right_sent { AreSent right.now.alike program.now graph.now right.now.degrees.now right.now.values.now right.now.sent.now }
     requires first { first.old.items ≡ [] }
     requires second { second.old.items ≡ [] }
     ensures { OnOk result (AreLeft first.new.items second.new.items
-        (all_brought program.now graph.now left.entry.edges.now left.entry.degrees.now left.entry.values.now row.now)
-        (all_brought program.now graph.now right.entry.edges.now right.entry.degrees.now right.entry.values.now row.now)) }
+        (all_brought program.now graph.now left.now.edges.now left.now.degrees.now left.now.values.now row.now)
+        (all_brought program.now graph.now right.now.edges.now right.now.degrees.now right.now.values.now row.now)) }
 {
     for arc in row {
         push_both(
@@ -213,8 +213,8 @@ fn fill(
 fn push_both(
     program: &Program,
     graph: &Graph,
-    left: Side<'_>,
-    right: Side<'_>,
+    left: &Side<'_>,
+    right: &Side<'_>,
     turned: &[Arc],
     movers: Movers<'_>,
     arc: Arc,
@@ -223,16 +223,16 @@ fn push_both(
 ) -> Result<(), NoMemory>
     requires checked { IsChecked program.now graph.now }
     requires arc { IsArc graph.now arc }
-    requires left { IsSized graph.now left.edges.now left.degrees.now left.values.now }
-    requires right { IsSized graph.now right.edges.now right.degrees.now right.values.now }
+    requires left { IsSized graph.now left.now.edges.now left.now.degrees.now left.now.values.now }
+    requires right { IsSized graph.now right.now.edges.now right.now.degrees.now right.now.values.now }
     requires movers { (u : ℕ) → u < length graph.now.ids → InMovers movers u }
-    requires still { AreStill program.now graph.now movers left.degrees.now left.values.now right.degrees.now right.values.now }
-    requires turned { IsTurned left.edges.now right.edges.now arc → Contains turned.now arc }
-    requires left_sent { AreSent left.alike program.now graph.now left.degrees.now left.values.now left.sent.now }
-    requires right_sent { AreSent right.alike program.now graph.now right.degrees.now right.values.now right.sent.now }
+    requires still { AreStill program.now graph.now movers left.now.degrees.now left.now.values.now right.now.degrees.now right.now.values.now }
+    requires turned { IsTurned left.now.edges.now right.now.edges.now arc → Contains turned.now arc }
+    requires left_sent { AreSent left.now.alike program.now graph.now left.now.degrees.now left.now.values.now left.now.sent.now }
+    requires right_sent { AreSent right.now.alike program.now graph.now right.now.degrees.now right.now.values.now right.now.sent.now }
     ensures { OnOk result ((all more : List Val) → AreLeft first.old.items second.old.items all more → AreLeft first.new.items second.new.items
-        (all ++ filter is_sent (brings program.now graph.now left.entry.edges.now left.entry.degrees.now left.entry.values.now arc ∷ []))
-        (more ++ filter is_sent (brings program.now graph.now right.entry.edges.now right.entry.degrees.now right.entry.values.now arc ∷ []))) }
+        (all ++ filter is_sent (brings program.now graph.now left.now.edges.now left.now.degrees.now left.now.values.now arc ∷ []))
+        (more ++ filter is_sent (brings program.now graph.now right.now.edges.now right.now.degrees.now right.now.values.now arc ∷ []))) }
 {
     if !may_differ(left, right, turned, movers, arc) {
         return Ok(());
@@ -248,12 +248,18 @@ fn push_both(
 
 // Whether an arc may bring something else in one round than in the other: where its tail may send something else, or
 // its edge is in one of the two views alone.
-fn may_differ(left: Side<'_>, right: Side<'_>, turned: &[Arc], movers: Movers<'_>, arc: Arc) -> bool
+fn may_differ(
+    left: &Side<'_>,
+    right: &Side<'_>,
+    turned: &[Arc],
+    movers: Movers<'_>,
+    arc: Arc,
+) -> bool
     requires movers { InMovers movers arc.tail.0 }
-    requires left_edges { arc.edge.0 < length left.edges.now }
-    requires right_edges { arc.edge.0 < length right.edges.now }
-    requires turned { IsTurned left.edges.now right.edges.now arc → Contains turned.now arc }
-    ensures edges { IsFalse result → in_view left.entry.edges.now arc ≡ in_view right.entry.edges.now arc }
+    requires left_edges { arc.edge.0 < length left.now.edges.now }
+    requires right_edges { arc.edge.0 < length right.now.edges.now }
+    requires turned { IsTurned left.now.edges.now right.now.edges.now arc → Contains turned.now arc }
+    ensures edges { IsFalse result → in_view left.now.edges.now arc ≡ in_view right.now.edges.now arc }
     ensures tail { IsFalse result → moves movers.entry arc.tail.0 ≡ false }
 {
     movers.moves(arc.tail) || is_turned(left.edges, right.edges, turned, arc)

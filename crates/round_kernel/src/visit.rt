@@ -77,7 +77,7 @@ pub(crate) fn visit<U: Updater>(
     program: &Program,
     graph: &Graph,
     rows: &Rows,
-    sides: Sides<'_>,
+    sides: &Sides<'_>,
     spot: Spot,
     touched: &mut bool,
     kept: &mut Kept,
@@ -90,22 +90,22 @@ pub(crate) fn visit<U: Updater>(
     requires rows { AreRows graph.now rows.now }
     requires node { spot.node.0 < length graph.now.ids }
     requires start { spot.start ≡ start_of program.now graph.now spot.node.0 }
-    requires new { IsRound U.answer program.now graph.now rows.now.by_head sides.new.edges.now sides.new.degrees.now sides.new.values.now spot.round }
-    requires before { IsRound U.answer program.now graph.now rows.now.by_head sides.new.edges.now sides.new.degrees.now sides.before.now (spot.round - 1) }
-    requires old { spot.first ≡ false → IsRound U.answer program.now graph.now rows.now.by_head sides.old.edges.now sides.old.degrees.now sides.old.values.now spot.round }
-    requires marked { 0 < spot.round → spot.marked ≡ node_marked U.answer program.now graph.now (old_view spot.first rows.now.by_head sides.old.edges.now) spot.node.0 spot.round }
-    requires kept { 0 < spot.round → touched.old ≡ true → kept.old ≡ kept_at U.answer program.now graph.now (arcs_in rows.now.by_head sides.new.edges.now) (spot.round - 1) spot.node.0 }
-    requires touched { touched.old ≡ was_touched U.answer program.now graph.now rows.now.by_head spot.first sides.old.edges.now sides.new.edges.now spot.round spot.node.0 }
-    requires new_sent { AreSent sides.new.alike program.now graph.now sides.new.degrees.now sides.new.values.now sides.new.sent.now }
-    requires old_sent { AreSent sides.old.alike program.now graph.now sides.old.degrees.now sides.old.values.now sides.old.sent.now }
-    requires aided { IsAided U.answer program.now graph.now rows.now.by_head spot.first sides.old.edges.now sides.new.edges.now spot.round aids.now }
-    ensures touched { OnOk result (touched.new ≡ node_touched U.answer program.now graph.now (arcs_in rows.now.by_head sides.entry.new.edges.now) (old_view spot.first rows.now.by_head sides.entry.old.edges.now) spot.node.0 spot.round) }
-    ensures kept { OnOk result (touched.new ≡ true → kept.new ≡ kept_at U.answer program.now graph.now (arcs_in rows.now.by_head sides.entry.new.edges.now) spot.round spot.node.0) }
-    ensures count { IfOk result (λ n. n ≡ (if node_counted U.answer program.now graph.now (arcs_in rows.now.by_head sides.entry.new.edges.now) (old_view spot.first rows.now.by_head sides.entry.old.edges.now) spot.node.0 spot.round then 1 else 0)) }
-    ensures marks { OnOk result (made.new.marks ≡ made.old.marks ++ mark_if (node_touched U.answer program.now graph.now (arcs_in rows.now.by_head sides.entry.new.edges.now) (old_view spot.first rows.now.by_head sides.entry.old.edges.now) spot.node.0 spot.round
-        && node_marked U.answer program.now graph.now (Some (arcs_in rows.now.by_head sides.entry.new.edges.now)) spot.node.0 spot.round) spot.node) }
-    ensures changes { let values = lone U.answer program.now graph.now (arcs_in rows.now.by_head sides.entry.new.edges.now) in
-        OnOk result (made.new.changes ≡ made.old.changes ++ change_if (node_touched U.answer program.now graph.now (arcs_in rows.now.by_head sides.entry.new.edges.now) (old_view spot.first rows.now.by_head sides.entry.old.edges.now) spot.node.0 spot.round
+    requires new { IsRound U.answer program.now graph.now rows.now.by_head sides.now.new.edges.now sides.now.new.degrees.now sides.now.new.values.now spot.round }
+    requires before { IsRound U.answer program.now graph.now rows.now.by_head sides.now.new.edges.now sides.now.new.degrees.now sides.now.before.now (spot.round - 1) }
+    requires old { spot.first ≡ false → IsRound U.answer program.now graph.now rows.now.by_head sides.now.old.edges.now sides.now.old.degrees.now sides.now.old.values.now spot.round }
+    requires marked { 0 < spot.round → spot.marked ≡ node_marked U.answer program.now graph.now (old_view spot.first rows.now.by_head sides.now.old.edges.now) spot.node.0 spot.round }
+    requires kept { 0 < spot.round → touched.old ≡ true → kept.old ≡ kept_at U.answer program.now graph.now (arcs_in rows.now.by_head sides.now.new.edges.now) (spot.round - 1) spot.node.0 }
+    requires touched { touched.old ≡ was_touched U.answer program.now graph.now rows.now.by_head spot.first sides.now.old.edges.now sides.now.new.edges.now spot.round spot.node.0 }
+    requires new_sent { AreSent sides.now.new.alike program.now graph.now sides.now.new.degrees.now sides.now.new.values.now sides.now.new.sent.now }
+    requires old_sent { AreSent sides.now.old.alike program.now graph.now sides.now.old.degrees.now sides.now.old.values.now sides.now.old.sent.now }
+    requires aided { IsAided U.answer program.now graph.now rows.now.by_head spot.first sides.now.old.edges.now sides.now.new.edges.now spot.round aids.now }
+    ensures touched { OnOk result (touched.new ≡ node_touched U.answer program.now graph.now (arcs_in rows.now.by_head sides.now.new.edges.now) (old_view spot.first rows.now.by_head sides.now.old.edges.now) spot.node.0 spot.round) }
+    ensures kept { OnOk result (touched.new ≡ true → kept.new ≡ kept_at U.answer program.now graph.now (arcs_in rows.now.by_head sides.now.new.edges.now) spot.round spot.node.0) }
+    ensures count { IfOk result (λ n. n ≡ (if node_counted U.answer program.now graph.now (arcs_in rows.now.by_head sides.now.new.edges.now) (old_view spot.first rows.now.by_head sides.now.old.edges.now) spot.node.0 spot.round then 1 else 0)) }
+    ensures marks { OnOk result (made.new.marks ≡ made.old.marks ++ mark_if (node_touched U.answer program.now graph.now (arcs_in rows.now.by_head sides.now.new.edges.now) (old_view spot.first rows.now.by_head sides.now.old.edges.now) spot.node.0 spot.round
+        && node_marked U.answer program.now graph.now (Some (arcs_in rows.now.by_head sides.now.new.edges.now)) spot.node.0 spot.round) spot.node) }
+    ensures changes { let values = lone U.answer program.now graph.now (arcs_in rows.now.by_head sides.now.new.edges.now) in
+        OnOk result (made.new.changes ≡ made.old.changes ++ change_if (node_touched U.answer program.now graph.now (arcs_in rows.now.by_head sides.now.new.edges.now) (old_view spot.first rows.now.by_head sides.now.old.edges.now) spot.node.0 spot.round
         && not (same_value (value_at (values (spot.round + 1)) spot.node.0) (value_at (values spot.round) spot.node.0))) spot.node (value_at (values (spot.round + 1)) spot.node.0)) }
     ensures calls { IfOk result (λ n. U.calls updater.new ≡ U.calls updater.old + n) }
 {
@@ -127,7 +127,7 @@ fn visit_touched<U: Updater>(
     program: &Program,
     graph: &Graph,
     rows: &Rows,
-    sides: Sides<'_>,
+    sides: &Sides<'_>,
     spot: Spot,
     was: bool,
     kept: &mut Kept,
@@ -140,23 +140,23 @@ fn visit_touched<U: Updater>(
     requires rows { AreRows graph.now rows.now }
     requires node { spot.node.0 < length graph.now.ids }
     requires start { spot.start ≡ start_of program.now graph.now spot.node.0 }
-    requires new { IsRound U.answer program.now graph.now rows.now.by_head sides.new.edges.now sides.new.degrees.now sides.new.values.now spot.round }
-    requires before { IsRound U.answer program.now graph.now rows.now.by_head sides.new.edges.now sides.new.degrees.now sides.before.now (spot.round - 1) }
-    requires marked { 0 < spot.round → spot.marked ≡ node_marked U.answer program.now graph.now (old_view spot.first rows.now.by_head sides.old.edges.now) spot.node.0 spot.round }
-    requires was { was ≡ was_touched U.answer program.now graph.now rows.now.by_head spot.first sides.old.edges.now sides.new.edges.now spot.round spot.node.0 }
-    requires kept { 0 < spot.round → was ≡ true → kept.old ≡ kept_at U.answer program.now graph.now (arcs_in rows.now.by_head sides.new.edges.now) (spot.round - 1) spot.node.0 }
-    requires touched { node_touched U.answer program.now graph.now (arcs_in rows.now.by_head sides.new.edges.now) (old_view spot.first rows.now.by_head sides.old.edges.now) spot.node.0 spot.round ≡ true }
-    requires new_sent { AreSent sides.new.alike program.now graph.now sides.new.degrees.now sides.new.values.now sides.new.sent.now }
-    requires aided { IsAided U.answer program.now graph.now rows.now.by_head spot.first sides.old.edges.now sides.new.edges.now spot.round aids.now }
-    ensures kept { OnOk result (kept.new ≡ kept_at U.answer program.now graph.now (arcs_in rows.now.by_head sides.entry.new.edges.now) spot.round spot.node.0) }
-    ensures count { IfOk result (λ n. n ≡ (if node_counted U.answer program.now graph.now (arcs_in rows.now.by_head sides.entry.new.edges.now) (old_view spot.first rows.now.by_head sides.entry.old.edges.now) spot.node.0 spot.round then 1 else 0)) }
-    ensures marks { OnOk result (made.new.marks ≡ made.old.marks ++ mark_if (node_marked U.answer program.now graph.now (Some (arcs_in rows.now.by_head sides.entry.new.edges.now)) spot.node.0 spot.round) spot.node) }
-    ensures changes { let values = lone U.answer program.now graph.now (arcs_in rows.now.by_head sides.entry.new.edges.now) in
+    requires new { IsRound U.answer program.now graph.now rows.now.by_head sides.now.new.edges.now sides.now.new.degrees.now sides.now.new.values.now spot.round }
+    requires before { IsRound U.answer program.now graph.now rows.now.by_head sides.now.new.edges.now sides.now.new.degrees.now sides.now.before.now (spot.round - 1) }
+    requires marked { 0 < spot.round → spot.marked ≡ node_marked U.answer program.now graph.now (old_view spot.first rows.now.by_head sides.now.old.edges.now) spot.node.0 spot.round }
+    requires was { was ≡ was_touched U.answer program.now graph.now rows.now.by_head spot.first sides.now.old.edges.now sides.now.new.edges.now spot.round spot.node.0 }
+    requires kept { 0 < spot.round → was ≡ true → kept.old ≡ kept_at U.answer program.now graph.now (arcs_in rows.now.by_head sides.now.new.edges.now) (spot.round - 1) spot.node.0 }
+    requires touched { node_touched U.answer program.now graph.now (arcs_in rows.now.by_head sides.now.new.edges.now) (old_view spot.first rows.now.by_head sides.now.old.edges.now) spot.node.0 spot.round ≡ true }
+    requires new_sent { AreSent sides.now.new.alike program.now graph.now sides.now.new.degrees.now sides.now.new.values.now sides.now.new.sent.now }
+    requires aided { IsAided U.answer program.now graph.now rows.now.by_head spot.first sides.now.old.edges.now sides.now.new.edges.now spot.round aids.now }
+    ensures kept { OnOk result (kept.new ≡ kept_at U.answer program.now graph.now (arcs_in rows.now.by_head sides.now.new.edges.now) spot.round spot.node.0) }
+    ensures count { IfOk result (λ n. n ≡ (if node_counted U.answer program.now graph.now (arcs_in rows.now.by_head sides.now.new.edges.now) (old_view spot.first rows.now.by_head sides.now.old.edges.now) spot.node.0 spot.round then 1 else 0)) }
+    ensures marks { OnOk result (made.new.marks ≡ made.old.marks ++ mark_if (node_marked U.answer program.now graph.now (Some (arcs_in rows.now.by_head sides.now.new.edges.now)) spot.node.0 spot.round) spot.node) }
+    ensures changes { let values = lone U.answer program.now graph.now (arcs_in rows.now.by_head sides.now.new.edges.now) in
         OnOk result (made.new.changes ≡ made.old.changes ++ change_if (not (same_value (value_at (values (spot.round + 1)) spot.node.0) (value_at (values spot.round) spot.node.0))) spot.node (value_at (values (spot.round + 1)) spot.node.0)) }
     ensures calls { IfOk result (λ n. U.calls updater.new ≡ U.calls updater.old + n) }
 {
     let tally = aids.feed.tally(
-        program, graph, rows, sides.new, spot.node, spot.round, updater,
+        program, graph, rows, &sides.new, spot.node, spot.round, updater,
     );
     let marked = is_marked(
         program, graph, rows, sides, spot, was, *kept, tally, aids, scratch, updater,
@@ -166,7 +166,7 @@ fn visit_touched<U: Updater>(
     if !either(marked, spot.marked) {
         return Ok(0);
     }
-    let value = evaluate(program, graph, rows, sides.new, spot, tally, updater);
+    let value = evaluate(program, graph, rows, &sides.new, spot, tally, updater);
     let changed = is_other(value, sides.new.values[spot.node.0 as usize]);
     push_change(&mut made.changes, changed, spot.node, value)?;
     Ok(1)
@@ -177,7 +177,7 @@ fn is_touched<U: Updater>(
     program: &Program,
     graph: &Graph,
     rows: &Rows,
-    sides: Sides<'_>,
+    sides: &Sides<'_>,
     spot: Spot,
     touched: bool,
     aids: &Aids,
@@ -187,13 +187,13 @@ fn is_touched<U: Updater>(
     requires checked { IsChecked program.now graph.now }
     requires rows { AreRows graph.now rows.now }
     requires node { spot.node.0 < length graph.now.ids }
-    requires new { IsRound U.answer program.now graph.now rows.now.by_head sides.new.edges.now sides.new.degrees.now sides.new.values.now spot.round }
-    requires old { spot.first ≡ false → IsRound U.answer program.now graph.now rows.now.by_head sides.old.edges.now sides.old.degrees.now sides.old.values.now spot.round }
-    requires touched { touched ≡ was_touched U.answer program.now graph.now rows.now.by_head spot.first sides.old.edges.now sides.new.edges.now spot.round spot.node.0 }
-    requires new_sent { AreSent sides.new.alike program.now graph.now sides.new.degrees.now sides.new.values.now sides.new.sent.now }
-    requires old_sent { AreSent sides.old.alike program.now graph.now sides.old.degrees.now sides.old.values.now sides.old.sent.now }
-    requires aided { IsAided U.answer program.now graph.now rows.now.by_head spot.first sides.old.edges.now sides.new.edges.now spot.round aids.now }
-    ensures { IfOk result (λ b. b ≡ node_touched U.answer program.now graph.now (arcs_in rows.now.by_head sides.entry.new.edges.now) (old_view spot.first rows.now.by_head sides.entry.old.edges.now) spot.node.0 spot.round) }
+    requires new { IsRound U.answer program.now graph.now rows.now.by_head sides.now.new.edges.now sides.now.new.degrees.now sides.now.new.values.now spot.round }
+    requires old { spot.first ≡ false → IsRound U.answer program.now graph.now rows.now.by_head sides.now.old.edges.now sides.now.old.degrees.now sides.now.old.values.now spot.round }
+    requires touched { touched ≡ was_touched U.answer program.now graph.now rows.now.by_head spot.first sides.now.old.edges.now sides.now.new.edges.now spot.round spot.node.0 }
+    requires new_sent { AreSent sides.now.new.alike program.now graph.now sides.now.new.degrees.now sides.now.new.values.now sides.now.new.sent.now }
+    requires old_sent { AreSent sides.now.old.alike program.now graph.now sides.now.old.degrees.now sides.now.old.values.now sides.now.old.sent.now }
+    requires aided { IsAided U.answer program.now graph.now rows.now.by_head spot.first sides.now.old.edges.now sides.now.new.edges.now spot.round aids.now }
+    ensures { IfOk result (λ b. b ≡ node_touched U.answer program.now graph.now (arcs_in rows.now.by_head sides.now.new.edges.now) (old_view spot.first rows.now.by_head sides.now.old.edges.now) spot.node.0 spot.round) }
 {
     if either(spot.first, touched) {
         return Ok(true);
@@ -205,7 +205,7 @@ fn is_touched<U: Updater>(
         return Ok(false);
     }
     let active = differ(
-        program, graph, sides.new, sides.old, turned, movers, row, scratch,
+        program, graph, &sides.new, &sides.old, turned, movers, row, scratch,
     )?;
     Ok(active)
 }
@@ -217,7 +217,7 @@ fn is_marked<U: Updater>(
     program: &Program,
     graph: &Graph,
     rows: &Rows,
-    sides: Sides<'_>,
+    sides: &Sides<'_>,
     spot: Spot,
     was: bool,
     kept: Kept,
@@ -229,16 +229,16 @@ fn is_marked<U: Updater>(
     requires checked { IsChecked program.now graph.now }
     requires rows { AreRows graph.now rows.now }
     requires node { spot.node.0 < length graph.now.ids }
-    requires new { IsRound U.answer program.now graph.now rows.now.by_head sides.new.edges.now sides.new.degrees.now sides.new.values.now spot.round }
-    requires before { IsRound U.answer program.now graph.now rows.now.by_head sides.new.edges.now sides.new.degrees.now sides.before.now (spot.round - 1) }
-    requires marked { 0 < spot.round → spot.marked ≡ node_marked U.answer program.now graph.now (old_view spot.first rows.now.by_head sides.old.edges.now) spot.node.0 spot.round }
-    requires was { was ≡ was_touched U.answer program.now graph.now rows.now.by_head spot.first sides.old.edges.now sides.new.edges.now spot.round spot.node.0 }
-    requires kept { 0 < spot.round → was ≡ true → kept ≡ kept_at U.answer program.now graph.now (arcs_in rows.now.by_head sides.new.edges.now) (spot.round - 1) spot.node.0 }
-    requires tally { tally ≡ tally_of program.now.gather (got_values U.answer program.now graph.now (arcs_in rows.now.by_head sides.new.edges.now) spot.node.0 spot.round) }
-    requires touched { node_touched U.answer program.now graph.now (arcs_in rows.now.by_head sides.new.edges.now) (old_view spot.first rows.now.by_head sides.old.edges.now) spot.node.0 spot.round ≡ true }
-    requires new_sent { AreSent sides.new.alike program.now graph.now sides.new.degrees.now sides.new.values.now sides.new.sent.now }
-    requires aided { IsAided U.answer program.now graph.now rows.now.by_head spot.first sides.old.edges.now sides.new.edges.now spot.round aids.now }
-    ensures { IfOk result (λ b. b ≡ node_marked U.answer program.now graph.now (Some (arcs_in rows.now.by_head sides.entry.new.edges.now)) spot.node.0 spot.round) }
+    requires new { IsRound U.answer program.now graph.now rows.now.by_head sides.now.new.edges.now sides.now.new.degrees.now sides.now.new.values.now spot.round }
+    requires before { IsRound U.answer program.now graph.now rows.now.by_head sides.now.new.edges.now sides.now.new.degrees.now sides.now.before.now (spot.round - 1) }
+    requires marked { 0 < spot.round → spot.marked ≡ node_marked U.answer program.now graph.now (old_view spot.first rows.now.by_head sides.now.old.edges.now) spot.node.0 spot.round }
+    requires was { was ≡ was_touched U.answer program.now graph.now rows.now.by_head spot.first sides.now.old.edges.now sides.now.new.edges.now spot.round spot.node.0 }
+    requires kept { 0 < spot.round → was ≡ true → kept ≡ kept_at U.answer program.now graph.now (arcs_in rows.now.by_head sides.now.new.edges.now) (spot.round - 1) spot.node.0 }
+    requires tally { tally ≡ tally_of program.now.gather (got_values U.answer program.now graph.now (arcs_in rows.now.by_head sides.now.new.edges.now) spot.node.0 spot.round) }
+    requires touched { node_touched U.answer program.now graph.now (arcs_in rows.now.by_head sides.now.new.edges.now) (old_view spot.first rows.now.by_head sides.now.old.edges.now) spot.node.0 spot.round ≡ true }
+    requires new_sent { AreSent sides.now.new.alike program.now graph.now sides.now.new.degrees.now sides.now.new.values.now sides.now.new.sent.now }
+    requires aided { IsAided U.answer program.now graph.now rows.now.by_head spot.first sides.now.old.edges.now sides.now.new.edges.now spot.round aids.now }
+    ensures { IfOk result (λ b. b ≡ node_marked U.answer program.now graph.now (Some (arcs_in rows.now.by_head sides.now.new.edges.now)) spot.node.0 spot.round) }
 {
     if spot.round == 0 {
         return Ok(true);
@@ -257,7 +257,7 @@ fn is_other_input<U: Updater>(
     program: &Program,
     graph: &Graph,
     rows: &Rows,
-    sides: Sides<'_>,
+    sides: &Sides<'_>,
     spot: Spot,
     aids: &Aids,
     scratch: &mut Scratch,
@@ -266,11 +266,11 @@ fn is_other_input<U: Updater>(
     requires checked { IsChecked program.now graph.now }
     requires rows { AreRows graph.now rows.now }
     requires node { spot.node.0 < length graph.now.ids }
-    requires new { IsRound U.answer program.now graph.now rows.now.by_head sides.new.edges.now sides.new.degrees.now sides.new.values.now spot.round }
-    requires before { IsRound U.answer program.now graph.now rows.now.by_head sides.new.edges.now sides.new.degrees.now sides.before.now (spot.round - 1) }
-    requires new_sent { AreSent sides.new.alike program.now graph.now sides.new.degrees.now sides.new.values.now sides.new.sent.now }
-    requires aided { IsAided U.answer program.now graph.now rows.now.by_head spot.first sides.old.edges.now sides.new.edges.now spot.round aids.now }
-    ensures { IfOk result (λ b. b ≡ node_marked U.answer program.now graph.now (Some (arcs_in rows.now.by_head sides.entry.new.edges.now)) spot.node.0 spot.round) }
+    requires new { IsRound U.answer program.now graph.now rows.now.by_head sides.now.new.edges.now sides.now.new.degrees.now sides.now.new.values.now spot.round }
+    requires before { IsRound U.answer program.now graph.now rows.now.by_head sides.now.new.edges.now sides.now.new.degrees.now sides.now.before.now (spot.round - 1) }
+    requires new_sent { AreSent sides.now.new.alike program.now graph.now sides.now.new.degrees.now sides.now.new.values.now sides.now.new.sent.now }
+    requires aided { IsAided U.answer program.now graph.now rows.now.by_head spot.first sides.now.old.edges.now sides.now.new.edges.now spot.round aids.now }
+    ensures { IfOk result (λ b. b ≡ node_marked U.answer program.now graph.now (Some (arcs_in rows.now.by_head sides.now.new.edges.now)) spot.node.0 spot.round) }
 {
     if spot.round == 0 {
         return Ok(true);
@@ -291,7 +291,16 @@ fn is_other_input<U: Updater>(
         alike: false,
         sent: &[],
     };
-    let marked = differ(program, graph, sides.new, before, &[], movers, row, scratch)?;
+    let marked = differ(
+        program,
+        graph,
+        &sides.new,
+        &before,
+        &[],
+        movers,
+        row,
+        scratch,
+    )?;
     Ok(marked)
 }
 
@@ -300,7 +309,7 @@ fn evaluate<U: Updater>(
     program: &Program,
     graph: &Graph,
     _rows: &Rows,
-    side: Side<'_>,
+    side: &Side<'_>,
     spot: Spot,
     tally: Tally,
     updater: &mut U,
@@ -309,10 +318,10 @@ fn evaluate<U: Updater>(
     requires rows { AreRows graph.now _rows.now }
     requires node { spot.node.0 < length graph.now.ids }
     requires start { spot.start ≡ start_of program.now graph.now spot.node.0 }
-    requires new { IsRound U.answer program.now graph.now _rows.now.by_head side.edges.now side.degrees.now side.values.now spot.round }
-    requires tally { tally ≡ tally_of program.now.gather (got_values U.answer program.now graph.now (arcs_in _rows.now.by_head side.edges.now) spot.node.0 spot.round) }
-    requires sent { AreSent side.alike program.now graph.now side.degrees.now side.values.now side.sent.now }
-    ensures value { result ≡ value_at (lone U.answer program.now graph.now (arcs_in _rows.now.by_head side.entry.edges.now) (spot.round + 1)) spot.node.0 }
+    requires new { IsRound U.answer program.now graph.now _rows.now.by_head side.now.edges.now side.now.degrees.now side.now.values.now spot.round }
+    requires tally { tally ≡ tally_of program.now.gather (got_values U.answer program.now graph.now (arcs_in _rows.now.by_head side.now.edges.now) spot.node.0 spot.round) }
+    requires sent { AreSent side.now.alike program.now graph.now side.now.degrees.now side.now.values.now side.now.sent.now }
+    ensures value { result ≡ value_at (lone U.answer program.now graph.now (arcs_in _rows.now.by_head side.now.edges.now) (spot.round + 1)) spot.node.0 }
     ensures calls { U.calls updater.new ≡ U.calls updater.old + 1 }
 {
     let value = side.values[spot.node.0 as usize];

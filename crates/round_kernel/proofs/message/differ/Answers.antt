@@ -9,8 +9,8 @@ pub returns-then-told_apart : goal.returns-then-told_apart
 returns-then-told_apart c =
     let p = c.args.program.now in
     let graph = c.args.graph.now in
-    let l = c.args.left in
-    let r = c.args.right in
+    let l = c.args.left.now in
+    let r = c.args.right.now in
     let row = c.args.row.now in
     let ls = all_brought p graph l.edges.now l.degrees.now l.values.now row in
     let rs = all_brought p graph r.edges.now r.degrees.now r.values.now row in
@@ -20,8 +20,8 @@ pub returns : goal.returns
 returns c =
     let p = c.args.program.now in
     let graph = c.args.graph.now in
-    let l = c.args.left in
-    let r = c.args.right in
+    let l = c.args.left.now in
+    let r = c.args.right.now in
     let row = c.args.row.now in
     let ls = all_brought p graph l.edges.now l.degrees.now l.values.now row in
     let rs = all_brought p graph r.edges.now r.degrees.now r.values.now row in

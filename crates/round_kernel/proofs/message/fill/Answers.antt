@@ -13,8 +13,8 @@ pub loop-arc-preserved : goal.loop-arc-preserved
 loop-arc-preserved c =
     let p = c.args.program.now in
     let graph = c.args.graph.now in
-    let l = c.args.left in
-    let r = c.args.right in
+    let l = c.args.left.now in
+    let r = c.args.right.now in
     let row = c.args.row.now in
     let i = c.loop-arc.arc-index in
     let a = get_or row i no_arc in

@@ -7,8 +7,8 @@ use Rattle.round_kernel.proofs.message.push_both.Goals as goal
 
 pub returns-then-not-may_differ : goal.returns-then-not-may_differ
 returns-then-not-may_differ c =
-    let l = c.args.left in
-    let r = c.args.right in
+    let l = c.args.left.now in
+    let r = c.args.right.now in
     λ all more had. left-same c.args.first.now.items c.args.second.now.items all more _ _ _ _ refl refl
     (brings-same c.args.program.now c.args.graph.now l.edges.now r.edges.now l.degrees.now r.degrees.now l.values.now r.values.now c.args.arc (c.may_differ.ensures.edges c.if-not-may_differ.true) (c.requires.still c.args.arc.tail.0 c.args.arc.edge.0 c.requires.arc.tail (c.may_differ.ensures.tail c.if-not-may_differ.true))) had
 
@@ -16,7 +16,7 @@ pub returns-in_ok-push_sent-2 : goal.returns-in_ok-push_sent-2
 returns-in_ok-push_sent-2 c = λ all more had.
     let p = c.args.program.now in
     let graph = c.args.graph.now in
-    let r = c.args.right in
+    let r = c.args.right.now in
     let here = c.message-here.result in
     let there = c.message-there.result in
     let first = c.push_sent.new.messages.items in
@@ -29,7 +29,7 @@ pub returns-else-is_other : goal.returns-else-is_other
 returns-else-is_other c = λ all more had.
     let p = c.args.program.now in
     let graph = c.args.graph.now in
-    let r = c.args.right in
+    let r = c.args.right.now in
     let here = c.message-here.result in
     let there = c.message-there.result in
     let first = c.args.first.now.items in

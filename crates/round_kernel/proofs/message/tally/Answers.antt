@@ -15,7 +15,7 @@ no_arc = record { tail = record { 0 = 0 }; head = record { 0 = 0 }; edge = recor
 
 pub with-tally-requires-clause-room : goal.with-tally-requires-clause-room
 with-tally-requires-clause-room c =
-    let s = c.args.side in
+    let s = c.args.side.now in
     let i = c.loop-arc.arc-index in
     omega (
       arith,
@@ -29,7 +29,7 @@ pub loop-arc-preserved : goal.loop-arc-preserved
 loop-arc-preserved c =
     let p = c.args.program.now in
     let graph = c.args.graph.now in
-    let s = c.args.side in
+    let s = c.args.side.now in
     let row = c.args.row.now in
     let i = c.loop-arc.arc-index in
     let had = all_brought p graph s.edges.now s.degrees.now s.values.now (take i row) in

@@ -10,7 +10,7 @@ use Rattle.round_kernel.proofs.visit.evaluate.Goals as goal
 
 pub gathered-gathered-requires : goal.gathered-gathered-requires
 gathered-gathered-requires g c =
-    let side = c.args.side in
+    let side = c.args.side.now in
     omega (
       arith,
       ap (λ (t : Tally). t.count) c.requires.tally,
@@ -22,18 +22,18 @@ pub returns-clause-value : goal.returns-clause-value
 returns-clause-value g c =
     let p = c.args.program.now in
     let graph = c.args.graph.now in
-    let arcs = arcs_in c.args._rows.now.by_head c.args.side.edges.now in
+    let arcs = arcs_in c.args._rows.now.by_head c.args.side.now.edges.now in
     let v = c.args.spot.node.0 in
     let r = c.args.spot.round in
     let ms = got_values g.U.Updater.answer p graph arcs v r in
-    next-told g.U.Updater.answer p graph arcs v r c.args.side.values.now ms _ _ _ _ _ _ c.requires.node c.requires.new.values_are
+    next-told g.U.Updater.answer p graph arcs v r c.args.side.now.values.now ms _ _ _ _ _ _ c.requires.node c.requires.new.values_are
     refl c.id-id.ensures.value c.requires.start refl
     (c.gathered-gathered.ensures ∙ ap (λ (t : Tally). gathered_in p.gather t) c.requires.tally ∙ tallied p.gather ms)
     (ap (λ (t : Tally). t.count) c.requires.tally) c.update.ensures.answer
 
 pub update-requires-clause-count : goal.update-requires-clause-count
 update-requires-clause-count g c =
-    let side = c.args.side in
+    let side = c.args.side.now in
     omega (
       arith,
       ap (λ (t : Tally). t.count) c.requires.tally,

@@ -11,13 +11,13 @@ use Rattle.round_kernel.proofs.Stillness.{itself, same-rounds}
 use Rattle.round_kernel.proofs.visit.is_other_input.Goals as goal
 
 pub returns-then-spot-eq0 : goal.returns-then-spot-eq0
-returns-then-spot-eq0 g c = marked-first g.U.Updater.answer c.args.program.now c.args.graph.now (arcs_in c.args.rows.now.by_head c.args.sides.new.edges.now) c.args.spot.node.0 c.args.spot.round c.if-spot-eq0.true
+returns-then-spot-eq0 g c = marked-first g.U.Updater.answer c.args.program.now c.args.graph.now (arcs_in c.args.rows.now.by_head c.args.sides.now.new.edges.now) c.args.spot.node.0 c.args.spot.round c.if-spot-eq0.true
 
 pub returns-then-is_other : goal.returns-then-is_other
 returns-then-is_other g c =
     let r = c.args.spot.round in
     let at : r ≡ suc (r - 1) = omega arith in
-    marked-own g.U.Updater.answer c.args.program.now c.args.graph.now (arcs_in c.args.rows.now.by_head c.args.sides.new.edges.now) c.args.spot.node.0 r (r - 1) at c.args.sides.new.values.now c.args.sides.before.now c.is_other.result c.requires.new.values_are c.requires.before.values_are c.is_other.ensures c.if-is_other.true
+    marked-own g.U.Updater.answer c.args.program.now c.args.graph.now (arcs_in c.args.rows.now.by_head c.args.sides.now.new.edges.now) c.args.spot.node.0 r (r - 1) at c.args.sides.now.new.values.now c.args.sides.now.before.now c.is_other.result c.requires.new.values_are c.requires.before.values_are c.is_other.ensures c.if-is_other.true
 
 pub are_still-requires : goal.are_still-requires
 are_still-requires g c =
@@ -31,7 +31,7 @@ returns-then-are_still g c =
     let p = c.args.program.now in
     let graph = c.args.graph.now in
     let all = c.args.rows.now.by_head in
-    let new = c.args.sides.new in
+    let new = c.args.sides.now.new in
     let told = c.args.aids.now.told in
     let v = c.args.spot.node.0 in
     let r = c.args.spot.round in
@@ -40,9 +40,9 @@ returns-then-are_still g c =
     let now = got_values answer p graph (arcs_in all new.edges.now) v r in
     let before = got_values answer p graph (arcs_in all new.edges.now) v (r - 1) in
     let still = subst (λ (ns : List ℕ). All (λ (a : Arc). (get_or ns a.tail.0 0 == r) ≡ false) c.into-row.result.now) c.deref.ensures.value (c.are_still.ensures c.if-are_still.true) in
-    marked-got answer p graph (arcs_in all new.edges.now) v r (r - 1) at new.values.now c.args.sides.before.now now before c.is_other.result false c.requires.new.values_are c.requires.before.values_are
+    marked-got answer p graph (arcs_in all new.edges.now) v r (r - 1) at new.values.now c.args.sides.now.before.now now before c.is_other.result false c.requires.new.values_are c.requires.before.values_are
     refl refl c.is_other.ensures c.if-is_other.false
-    (itself now before (same-rounds answer p graph all c.args.spot.first c.args.sides.old.edges.now new.edges.now r told c.requires.aided.told c.requires.rows.arcs v later c.into-row.result.now c.into-row.ensures still))
+    (itself now before (same-rounds answer p graph all c.args.spot.first c.args.sides.now.old.edges.now new.edges.now r told c.requires.aided.told c.requires.rows.arcs v later c.into-row.result.now c.into-row.ensures still))
 
 pub differ-requires-clause-row : goal.differ-requires-clause-row
 differ-requires-clause-row g c = subst (λ (xs : List Arc). All (IsArc c.args.graph.now) xs) (sym c.into-row.ensures) (All-filter (λ (a : Arc). a.head.0 == c.args.spot.node.0) (IsArc c.args.graph.now) c.args.rows.now.by_head c.requires.rows.arcs)
@@ -52,13 +52,13 @@ returns g c =
     let p = c.args.program.now in
     let graph = c.args.graph.now in
     let all = c.args.rows.now.by_head in
-    let new = c.args.sides.new in
+    let new = c.args.sides.now.new in
     let v = c.args.spot.node.0 in
     let r = c.args.spot.round in
     let at : r ≡ suc (r - 1) = omega arith in
-    marked-got g.U.Updater.answer p graph (arcs_in all new.edges.now) v r (r - 1) at new.values.now c.args.sides.before.now
-    (all_brought p graph new.edges.now new.degrees.now new.values.now c.into-row.result.now) (all_brought p graph new.edges.now new.degrees.now c.args.sides.before.now c.into-row.result.now)
+    marked-got g.U.Updater.answer p graph (arcs_in all new.edges.now) v r (r - 1) at new.values.now c.args.sides.now.before.now
+    (all_brought p graph new.edges.now new.degrees.now new.values.now c.into-row.result.now) (all_brought p graph new.edges.now new.degrees.now c.args.sides.now.before.now c.into-row.result.now)
     c.is_other.result c.in_ok-marked.marked c.requires.new.values_are c.requires.before.values_are
     (brought-row g.U.Updater.answer p graph all new.edges.now new.degrees.now new.values.now r c.requires.new v c.into-row.result.now c.requires.rows.arcs c.into-row.ensures)
-    (brought-row g.U.Updater.answer p graph all new.edges.now new.degrees.now c.args.sides.before.now (r - 1) c.requires.before v c.into-row.result.now c.requires.rows.arcs c.into-row.ensures)
+    (brought-row g.U.Updater.answer p graph all new.edges.now new.degrees.now c.args.sides.now.before.now (r - 1) c.requires.before v c.into-row.result.now c.requires.rows.arcs c.into-row.ensures)
     c.is_other.ensures c.if-is_other.false c.in_ok-marked.ensures

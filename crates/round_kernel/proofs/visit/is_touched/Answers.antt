@@ -15,7 +15,7 @@ use Rattle.round_kernel.proofs.Turning.{none-turned, turned-into}
 use Rattle.round_kernel.proofs.visit.is_touched.Goals as goal
 
 pub returns-then-either : goal.returns-then-either
-returns-then-either g c = touched-yes g.U.Updater.answer c.args.program.now c.args.graph.now c.args.rows.now.by_head c.args.sides.old.edges.now c.args.sides.new.edges.now c.args.spot.node.0 c.args.spot.round c.args.spot.first c.args.touched c.requires.touched (sym c.either.ensures ∙ c.if-either.true)
+returns-then-either g c = touched-yes g.U.Updater.answer c.args.program.now c.args.graph.now c.args.rows.now.by_head c.args.sides.now.old.edges.now c.args.sides.now.new.edges.now c.args.spot.node.0 c.args.spot.round c.args.spot.first c.args.touched c.requires.touched (sym c.either.ensures ∙ c.if-either.true)
 
 pub are_still-requires : goal.are_still-requires
 are_still-requires g c =
@@ -29,8 +29,8 @@ returns-then-are_still g c =
     let p = c.args.program.now in
     let graph = c.args.graph.now in
     let all = c.args.rows.now.by_head in
-    let new = c.args.sides.new.edges.now in
-    let old = c.args.sides.old.edges.now in
+    let new = c.args.sides.now.new.edges.now in
+    let old = c.args.sides.now.old.edges.now in
     let told = c.args.aids.now.told in
     let v = c.args.spot.node.0 in
     let r = c.args.spot.round in
@@ -49,8 +49,8 @@ differ-requires-clause-row g c = subst (λ (xs : List Arc). All (IsArc c.args.gr
 pub differ-requires-clause-still : goal.differ-requires-clause-still
 differ-requires-clause-still g c = λ u e low apart.
     let one : c.args.spot.first ≡ false = or-first c.args.spot.first c.args.touched (sym c.either.ensures ∙ c.if-either.false) in
-    let new = c.args.sides.new in
-    let old = c.args.sides.old in
+    let new = c.args.sides.now.new in
+    let old = c.args.sides.now.old in
     sent-under g.U.Updater.answer c.args.program.now c.args.graph.now c.args.rows.now.by_head new.edges.now new.degrees.now new.values.now c.args.spot.round c.requires.new u e low
     ∙ c.requires.aided.told.apart one u e low (ap (λ (bs : List Bool). get_or bs u false) (sym c.deref.ensures.value) ∙ apart)
     ∙ sym (sent-under g.U.Updater.answer c.args.program.now c.args.graph.now c.args.rows.now.by_head old.edges.now old.degrees.now old.values.now c.args.spot.round (c.requires.old one) u e low)
@@ -58,7 +58,7 @@ differ-requires-clause-still g c = λ u e low apart.
 pub differ-requires-clause-turned : goal.differ-requires-clause-turned
 differ-requires-clause-turned g c =
     let one : c.args.spot.first ≡ false = or-first c.args.spot.first c.args.touched (sym c.either.ensures ∙ c.if-either.false) in
-    turned-into c.args.graph.now c.args.rows.now.by_head c.args.spot.first c.args.sides.old.edges.now c.args.sides.new.edges.now c.args.aids.now.told.turned c.requires.aided.told.turned one c.args.spot.node.0
+    turned-into c.args.graph.now c.args.rows.now.by_head c.args.spot.first c.args.sides.now.old.edges.now c.args.sides.now.new.edges.now c.args.aids.now.told.turned c.requires.aided.told.turned one c.args.spot.node.0
     c.into-row.result.now c.turned_into-turned.result.now c.into-row.ensures c.turned_into-turned.ensures
 
 pub returns : goal.returns
@@ -66,8 +66,8 @@ returns g c =
     let p = c.args.program.now in
     let graph = c.args.graph.now in
     let all = c.args.rows.now.by_head in
-    let new = c.args.sides.new in
-    let old = c.args.sides.old in
+    let new = c.args.sides.now.new in
+    let old = c.args.sides.now.old in
     let v = c.args.spot.node.0 in
     let r = c.args.spot.round in
     touched-test g.U.Updater.answer p graph all old.edges.now new.edges.now v r c.args.spot.first c.args.touched c.in_ok-active.active
