@@ -22,11 +22,12 @@ use Rattle.round_kernel.specs.declared.feed.Feed.TheVariants as feeds
 use Rattle.round_kernel.specs.declared.history.Change.{Change}
 use Rattle.round_kernel.specs.declared.live.Live.{Live}
 use Rattle.round_kernel.specs.declared.live.Link.{Link}
-use Rattle.round_kernel.specs.Feeds.{IsFed, HasMessages, HasValues, AreTails, AreLinks}
+use Rattle.round_kernel.specs.Feeds.{IsFed, HasValues, AreTails, AreLinks}
 use Rattle.round_kernel.specs.Histories.{is_changed, HasChanges}
 use Rattle.round_kernel.specs.Links.{tail_of, link_of, sent_over}
 use Rattle.round_kernel.specs.Lives.{AreLive, kept_for}
-use Rattle.round_kernel.specs.Numbers.{number_at, value_in, code_of, sent_from, sent_in_view, sent_with, AreNumbers, AreRenewed, IsStep}
+use Rattle.round_kernel.specs.Codes.{number_at, value_in, code_of}
+use Rattle.round_kernel.specs.Numbers.{sent_from, sent_in_view, sent_with, AreNumbers, AreRenewed, IsStep}
 use Rattle.round_kernel.specs.Sides.{in_view, arcs_in, row_of, AreSent, IsRound}
 use Rattle.round_kernel.specs.Telling.{sent_in}
 use Rattle.round_kernel.proofs.Filling.{unchanged-at}
@@ -87,12 +88,16 @@ module _ (answer : Answer) (p : Program) (graph : GraphData) (all : List Arc) (e
   carries : Arc → Val
   carries = carried p graph (arcs_in all edges) (lone answer p graph (arcs_in all edges) r)
 
-  -- an arc brings the number of its tail
-  carries-number : (numbers : List ℤ) → HasMessages answer p graph all edges r numbers → All (λ a. number_at numbers a.tail.0 ≡ carries a) all
-  unfolding carries
-  carries-number numbers has = All-weaker (IsArc graph) (λ a. number_at numbers a.tail.0 ≡ carries a) (λ a arc. has.each a.tail.0 a.edge.0 arc.tail) all arcs
+  -- the numbers are those of the messages of the round
+  abbrev AreMessages : List ℤ → Type 0
+  AreMessages numbers = (u e : ℕ) → u < length graph.ids → number_at numbers u ≡ sent_in answer p graph (arcs_in all edges) r u e
 
-  pub by-messages : (numbers : List ℤ) (row : List Arc) → HasMessages answer p graph all edges r numbers → row ≡ row_of all v
+  -- an arc brings the number of its tail
+  carries-number : (numbers : List ℤ) → AreMessages numbers → All (λ a. number_at numbers a.tail.0 ≡ carries a) all
+  unfolding carries
+  carries-number numbers has = All-weaker (IsArc graph) (λ a. number_at numbers a.tail.0 ≡ carries a) (λ a arc. has a.tail.0 a.edge.0 arc.tail) all arcs
+
+  pub by-messages : (numbers : List ℤ) (row : List Arc) → AreMessages numbers → row ≡ row_of all v
       → sent_in_view numbers edges row ≡ got_values answer p graph (arcs_in all edges) v r
   unfolding carries
   by-messages numbers row has e =
@@ -101,7 +106,7 @@ module _ (answer : Answer) (p : Program) (graph : GraphData) (all : List Arc) (e
       ∙ gated (in_view edges) brought (row_of all v)
       ∙ chosen-both (in_view edges) (λ (a : Arc). a.head.0 == v) brought carries all (carries-number numbers has)
 
-  pub by-tails : (live : Live NodeNo) (numbers : List ℤ) (row : List NodeNo) → HasMessages answer p graph all edges r numbers → AreTails graph all edges live → row ≡ kept_for live.items.items live.ends.items v
+  pub by-tails : (live : Live NodeNo) (numbers : List ℤ) (row : List NodeNo) → AreMessages numbers → AreTails graph all edges live → row ≡ kept_for live.items.items live.ends.items v
       → sent_from numbers row ≡ got_values answer p graph (arcs_in all edges) v r
   unfolding carries
   by-tails live numbers row has rows e =
@@ -149,15 +154,8 @@ module _ (answer : Answer) (p : Program) (graph : GraphData) (all : List Arc) (e
       ∙ ap (λ (vs : List Val). sent_by p graph u (value_at vs u) (outdeg (arcs_in all edges) u) e) is.values_are
 
   -- a message that is kept is the one of the round
-  pub sent-is : (alike : Bool) (sent : List Val) (u e : ℕ) → AreSent alike p graph degrees values sent → alike ≡ true → u < length graph.ids → value_at sent u ≡ sent_in answer p graph (arcs_in all edges) r u e
-  sent-is alike sent u e has on low = (has on).1 u e low ∙ sent-under u e low
-
-  pub messages-begin : (alike : Bool) (sent : List Val) (numbers : List ℤ) → AreSent alike p graph degrees values sent → alike ≡ true → AreNumbers sent numbers
-      → HasMessages answer p graph all edges r numbers
-  messages-begin alike sent numbers has on are = record {
-    size = are.size ∙ (has on).0;
-    each = λ u e low. are.each u (omega (arith, low, (has on).0)) ∙ sent-is alike sent u e has on low;
-  }
+  pub sent-is : (alike : Bool) (sent : List ℤ) → AreSent alike p graph degrees values sent → alike ≡ true → (u e : ℕ) → u < length graph.ids → number_at sent u ≡ sent_in answer p graph (arcs_in all edges) r u e
+  sent-is alike sent has on u e low = (has on).1 u e low ∙ sent-under u e low
 
   pub values-begin : (column : ℕ) (numbers : List ℤ) → AreNumbers values numbers → IsStep p column
       → HasValues answer p graph all edges r column numbers
@@ -183,17 +181,6 @@ module _ (answer : Answer) (p : Program) (graph : GraphData) (all : List Arc) (e
   abbrev was : List Val
   was = lone answer p graph (arcs_in all edges) r
 
-  pub messages-next : (alike : Bool) (sent : List Val) (before after : List ℤ) → AreSent alike p graph degrees values sent → alike ≡ true → AreRenewed sent cs before after
-      → HasMessages answer p graph all edges r before → HasMessages answer p graph all edges (r + 1) after
-  messages-next alike sent before after kept on new had = record {
-    size = new.size ∙ had.size;
-    each = λ u e low. new.each u (omega (arith, low, had.size)) ∙ (elim (cases_Bool (is_changed u cs)) [
-      | inl t ↦ picked (is_changed u cs) (value_at sent u) (number_at before u) t ∙ sent-is answer p graph all edges degrees values (r + 1) is alike sent u e kept on low
-      | inr f ↦ passed (is_changed u cs) (value_at sent u) (number_at before u) f ∙ had.each u e low
-          ∙ ap (λ (x : Val). sent_by p graph u x (outdeg (arcs_in all edges) u) e) (sym (unchanged-at (length graph.ids) was now cs u low has f))
-    ]);
-  }
-
   pub values-next : (column : ℕ) (before after : List ℤ) → AreRenewed values cs before after
       → HasValues answer p graph all edges r column before → HasValues answer p graph all edges (r + 1) column after
   values-next column before after new had = record {
@@ -213,11 +200,8 @@ renewed-as values vs cs before bs after zs ev eb ea h =
 -- ---- what is kept
 
 module _ (answer : Answer) (p : Program) (graph : GraphData) (all : List Arc) (edges : List Bool) (r : ℕ) (feed : Feed) (fed : IsFed answer p graph all edges r feed) where
-  pub fed-messages : (numbers : Vec ℤ Global) (live : Option (Live NodeNo)) → feed ≡ feeds.Messages numbers live → HasMessages answer p graph all edges r numbers.items
-  fed-messages numbers live e = (subst (λ (f : Feed). IsFed answer p graph all edges r f) e fed).0
-
-  pub fed-tails : (numbers : Vec ℤ Global) (live : Option (Live NodeNo)) (tails : Live NodeNo) → feed ≡ feeds.Messages numbers live → live ≡ Some tails → AreTails graph all edges tails
-  fed-tails numbers live tails e is = subst (λ (o : Option (Live NodeNo)). IfSome o (AreTails graph all edges)) is (subst (λ (f : Feed). IsFed answer p graph all edges r f) e fed).1
+  pub fed-tails : (live : Option (Live NodeNo)) (tails : Live NodeNo) → feed ≡ feeds.Messages live → live ≡ Some tails → AreTails graph all edges tails
+  fed-tails live tails e is = subst (λ (o : Option (Live NodeNo)). IfSome o (AreTails graph all edges)) is (subst (λ (f : Feed). IsFed answer p graph all edges r f) e fed)
 
   pub fed-values : (column : ℕ) (numbers : Vec ℤ Global) (live : Option (Live Link)) → feed ≡ feeds.Steps column numbers live → HasValues answer p graph all edges r column numbers.items
   fed-values column numbers live e = (subst (λ (f : Feed). IsFed answer p graph all edges r f) e fed).0

@@ -13,7 +13,8 @@ use Rattle.graph_model.specs.declared.value.Val.TheVariants.{Nil, Num}
 use Rattle.vertex_lang.specs.Arcs.{is_sent}
 use Rattle.vertex_lang.specs.Rounds.{value_at}
 use Rattle.vertex_lang.specs.Values.{clamped, lowest_number}
-use Rattle.round_kernel.specs.Numbers.{AreNumbers, value_in}
+use Rattle.round_kernel.specs.Codes.{value_in}
+use Rattle.round_kernel.specs.Numbers.{AreNumbers}
 
 -- what a number stands for
 pub none-is : (z : ℤ) → z ≡ lowest_number → value_in z ≡ Nil

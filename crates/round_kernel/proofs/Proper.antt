@@ -10,7 +10,8 @@ use Rattle.graph_model.specs.declared.value.Val.{Val}
 use Rattle.graph_model.specs.declared.value.Val.TheVariants.{Nil, Num}
 use Rattle.graph_model.specs.GraphData.{GraphData, Cell, HasEdgeCells, IsCellOf, kind_at, edge_cell_of}
 use Rattle.vertex_lang.specs.Values.{lowest_number, value_of_cell}
-use Rattle.round_kernel.specs.Numbers.{value_in, code_of, AreProper}
+use Rattle.round_kernel.specs.Codes.{value_in, code_of}
+use Rattle.round_kernel.specs.Numbers.{AreProper}
 
 -- the number of the value gives it back
 abbrev IsProper : Val → Type 0

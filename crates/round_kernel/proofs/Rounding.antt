@@ -1,5 +1,5 @@
 -- What a round makes: what was found at the touched nodes, and what is copied from the view before at the others.
-use Rattle.std.proofs.Common.{Vec, Global, ◌≡◌, ◌∙◌, ◌<◌, ◌+◌, ◌-◌, ◌++◌, ◌∷◌, [], suc, sym, ap, refl, ℕ, Bool, true, false, List, Option, Some, None, length, get_or, filter, arith}
+use Rattle.std.proofs.Common.{Vec, Global, ◌≡◌, ◌∙◌, ◌<◌, ◌+◌, ◌-◌, ◌++◌, ◌∷◌, [], suc, sym, ap, refl, ℕ, ℤ, Bool, true, false, List, Option, Some, None, length, get_or, filter, arith}
 use Rattle.std.specs.Prelude.{◌&&◌, ◌||◌, ◌==◌, not, if◌then◌else◌}
 use Rattle.std.specs.List.{list_any}
 use Rattle.std.proofs.lemmas.Bool.{eqb-true}
@@ -18,7 +18,7 @@ use Rattle.lone_work.specs.WorkLaws.{first-touched, untouched-value, untouched-m
 use Rattle.round_kernel.specs.declared.history.Change.{Change}
 use Rattle.round_kernel.specs.declared.round.Frame.{Frame}
 use Rattle.round_kernel.specs.declared.round.Lists.{Lists}
-use Rattle.round_kernel.specs.Sides.{arcs_in, AreSent, IsSized}
+use Rattle.round_kernel.specs.Sides.{arcs_in, AreSent, MayKeep, IsSized}
 use Rattle.round_kernel.specs.Histories.{HasNodes, HasChanges, is_changed, is_listed}
 use Rattle.round_kernel.specs.Rounds.{old_view}
 use Rattle.round_kernel.specs.Frames.{StandAt, HasSome, count_in, lone_at, new_arcs, old_arcs, touched_at, marked_at, marked_before, was_touched_at, changes_at}
@@ -139,13 +139,13 @@ module _ (answer : Answer) (f : Frame) (r : ℕ) where
   }
 
   -- the values go one round on
-  pub at-next : (lists : Lists) (ob nb on nn ns : Vec Val Global) → StandAt answer f r (touched_at answer f r) lists
+  pub at-next : (lists : Lists) (ob nb on nn : Vec Val Global) (a : Bool) (ns : Vec ℤ Global) → StandAt answer f r (touched_at answer f r) lists
       → nn.items ≡ lone_at answer f (r + 1) → nb.items ≡ lone_at answer f r
       → (f.first ≡ false → on.items ≡ lone answer f.program.now f.graph.now (arcs_in f.rows.now.by_head f.old.now) (r + 1)) → (f.first ≡ false → ob.items ≡ lone answer f.program.now f.graph.now (arcs_in f.rows.now.by_head f.old.now) r)
       → length nn.items ≡ count_in f → length nb.items ≡ count_in f → length on.items ≡ count_in f → length ob.items ≡ count_in f
-      → AreSent lists.alike f.program.now f.graph.now lists.new_degrees.items nn.items ns.items
-      → StandAt answer f (r + 1) (was_touched_at answer f (r + 1)) (record lists { old_before = ob; new_before = nb; old_now = on; new_now = nn; new_sent = ns })
-  at-next lists ob nb on nn ns u enn enb eon eob snn snb son sob kns = record {
+      → MayKeep a f.program.now f.graph.now → AreSent a f.program.now f.graph.now lists.new_degrees.items nn.items ns.items
+      → StandAt answer f (r + 1) (was_touched_at answer f (r + 1)) (record lists { old_before = ob; new_before = nb; old_now = on; new_now = nn; alike = a; new_sent = ns })
+  at-next lists ob nb on nn a ns u enn enb eon eob snn snb son sob mk kns = record {
     starts = u.starts;
     new_now = record { sized = sized-of f.new.now lists.new_degrees.items lists.new_now.items nn.items u.new_now.sized snn; degrees_are = u.new_now.degrees_are; values_are = enn };
     new_before = record { sized = sized-of f.new.now lists.new_degrees.items lists.new_before.items nb.items u.new_before.sized snb; degrees_are = u.new_before.degrees_are; values_are = enb ∙ ap (λ n. lone_at answer f n) back };
@@ -159,7 +159,7 @@ module _ (answer : Answer) (f : Frame) (r : ℕ) where
     watched_size = u.watched_size;
     watched_are = u.watched_are;
     turned_are = u.turned_are;
-    keeps = u.keeps;
+    keeps = mk;
     new_sent = kns;
     queue = u.queue;
   } where

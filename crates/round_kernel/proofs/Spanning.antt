@@ -13,7 +13,7 @@ use Rattle.graph_model.specs.declared.value.Val.TheVariants.{Nil, Num}
 use Rattle.vertex_lang.specs.Arcs.{amount}
 use Rattle.vertex_lang.specs.Values.{lesser, greater, greatest, lowest_number}
 use Rattle.round_kernel.specs.declared.span.Span.{Span}
-use Rattle.round_kernel.specs.Numbers.{value_in}
+use Rattle.round_kernel.specs.Codes.{value_in}
 use Rattle.round_kernel.specs.Spans.{IsSpan, with_message}
 use Rattle.round_kernel.proofs.Numbered.{none-is, number-is}
 

@@ -13,16 +13,11 @@ use Rattle.round_kernel.specs.declared.live.Link.{Link}
 use Rattle.round_kernel.specs.declared.round.Frame.{Frame}
 use Rattle.round_kernel.specs.Links.{tail_of, link_of}
 use Rattle.round_kernel.specs.Lives.{AreLive}
-use Rattle.round_kernel.specs.Numbers.{number_at, AreProper, IsStep}
+use Rattle.round_kernel.specs.Codes.{number_at}
+use Rattle.round_kernel.specs.Numbers.{AreProper, IsStep}
 use Rattle.round_kernel.specs.Sides.{arcs_in}
-use Rattle.round_kernel.specs.Telling.{sent_in}
 
 module _ (answer : Answer) (p : Program) (graph : GraphData) (all : List Arc) (edges : List Bool) (r : ℕ) where
-  -- the numbers are those of the messages of the round, which are the same along all arcs that leave a node
-  pub record HasMessages (numbers : List ℤ) : Type 0 where
-    pub size : length numbers ≡ length graph.ids
-    pub each : (u e : ℕ) → u < length graph.ids → number_at numbers u ≡ sent_in answer p graph (arcs_in all edges) r u e
-
   -- the numbers are those of the values of the round, and the message is the value and a property of the edge added
   pub record HasValues (column : ℕ) (numbers : List ℤ) : Type 0 where
     pub step : IsStep p column
@@ -39,7 +34,7 @@ pub record AreLinks (graph : GraphData) (all : List Arc) (edges : List Bool) (co
   pub proper : AreProper graph column
 
 abbrev pub IsFed : Answer → Program → GraphData → List Arc → List Bool → ℕ → Feed → Type 0
-IsFed answer p graph all edges r (feeds.Messages numbers live) = HasMessages answer p graph all edges r numbers.items × IfSome live (AreTails graph all edges)
+IsFed answer p graph all edges r (feeds.Messages live) = IfSome live (AreTails graph all edges)
 IsFed answer p graph all edges r (feeds.Steps column numbers live) = HasValues answer p graph all edges r column numbers.items × IfSome live (AreLinks graph all edges column)
 IsFed answer p graph all edges r feeds.Nothing = ⊤
 

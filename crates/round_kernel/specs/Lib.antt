@@ -1,3 +1,4 @@
+pub mod Codes
 pub mod Sides
 pub mod Chained
 pub mod Forms

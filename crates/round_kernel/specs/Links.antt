@@ -8,7 +8,7 @@ use Rattle.vertex_lang.specs.Arcs.{is_sent}
 use Rattle.vertex_lang.specs.Expressions.{edge_value}
 use Rattle.vertex_lang.specs.Values.{added}
 use Rattle.round_kernel.specs.declared.live.Link.{Link}
-use Rattle.round_kernel.specs.Numbers.{number_at, value_in, code_of}
+use Rattle.round_kernel.specs.Codes.{number_at, value_in, code_of}
 
 abbrev pub tail_of : Arc → NodeNo
 tail_of a = a.tail

@@ -1,31 +1,19 @@
--- A value as one number: the lowest one stands for none.
-use Rattle.std.specs.Prelude.{◌≡◌, ◌<◌, ℕ, ℤ, pos, Bool, true, if◌then◌else◌, List, length, get_or, map, filter}
-use Rattle.std.specs.Ordering.{int_eq}
+-- Lists of values as numbers, and what arcs bring that are read from them.
+use Rattle.std.specs.Prelude.{◌≡◌, ◌≢◌, ◌<◌, ℕ, ℤ, Bool, true, if◌then◌else◌, List, length, map, filter}
 use Rattle.graph_model.specs.declared.number.NodeNo.{NodeNo}
 use Rattle.graph_model.specs.declared.value.Val.{Val}
-use Rattle.graph_model.specs.declared.value.Val.TheVariants.{Nil, Num}
+use Rattle.graph_model.specs.declared.value.Val.TheVariants.{Nil}
 use Rattle.graph_model.specs.GraphData.{GraphData}
 use Rattle.vertex_lang.specs.declared.arc.Arc.{Arc}
 use Rattle.vertex_lang.specs.declared.program.Program.{Program}
 use Rattle.vertex_lang.specs.Arcs.{is_sent}
 use Rattle.vertex_lang.specs.Expressions.{sent_by, edge_value}
 use Rattle.vertex_lang.specs.Rounds.{value_at}
-use Rattle.vertex_lang.specs.Values.{added, lowest_number}
+use Rattle.vertex_lang.specs.Values.{added}
 use Rattle.round_kernel.specs.declared.history.Change.{Change}
 use Rattle.round_kernel.specs.Histories.{is_changed}
+use Rattle.round_kernel.specs.Codes.{value_in, code_of, number_at}
 use Rattle.round_kernel.specs.Sides.{in_view}
-
-abbrev pub value_in : ℤ → Val
-value_in z = if int_eq z lowest_number then Nil else Num z
-
--- and back
-abbrev pub code_of : Val → ℤ
-code_of Nil = lowest_number
-code_of (Num z) = z
-
--- that of a node
-abbrev pub number_at : List ℤ → ℕ → Val
-number_at numbers u = value_in (get_or numbers u (pos 0))
 
 -- they are the numbers of these values
 pub record AreNumbers (values : List Val) (numbers : List ℤ) : Type 0 where
@@ -36,6 +24,12 @@ pub record AreNumbers (values : List Val) (numbers : List ℤ) : Type 0 where
 pub record AreRenewed (values : List Val) (changes : List Change) (before after : List ℤ) : Type 0 where
   pub size : length after ≡ length before
   pub each : (u : ℕ) → u < length before → number_at after u ≡ (if is_changed u changes then value_at values u else number_at before u)
+
+-- that of one node is of this value, and the others are as they were
+pub record IsPut (node : ℕ) (value : Val) (before after : List ℤ) : Type 0 where
+  pub size : length after ≡ length before
+  pub here : number_at after node ≡ value
+  pub others : (u : ℕ) → u ≢ node → number_at after u ≡ number_at before u
 
 -- what arcs from these tails bring, where each brings the number of its tail
 abbrev pub sent_from : List ℤ → List NodeNo → List Val

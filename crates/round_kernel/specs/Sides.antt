@@ -1,5 +1,5 @@
 -- A round of a view, as the code keeps it: which edges are in the view, how many arcs leave each node, and the values.
-use Rattle.std.specs.Prelude.{◌≡◌, ◌≢◌, ◌<◌, ◌+◌, ◌^◌, ◌==◌, ◌||◌, ◌⊎◌, ℕ, Bool, true, false, List, length, map, filter, get_or, Option, Some, None, if◌then◌else◌}
+use Rattle.std.specs.Prelude.{◌≡◌, ◌≢◌, ◌<◌, ◌+◌, ◌^◌, ◌==◌, ◌||◌, ◌⊎◌, ℕ, ℤ, Bool, true, false, List, length, map, filter, get_or, Option, Some, None, if◌then◌else◌}
 use Rattle.graph_model.specs.declared.value.Val.{Val}
 use Rattle.graph_model.specs.declared.value.Val.TheVariants.{Nil}
 use Rattle.graph_model.specs.GraphData.{GraphData}
@@ -11,6 +11,7 @@ use Rattle.vertex_lang.specs.Rounds.{value_at, lone}
 use Rattle.vertex_lang.specs.Lone.{same_value}
 use Rattle.vertex_lang.specs.Ignoring.{IgnoresEdge, IgnoresOutdeg}
 use Rattle.multisets.specs.Multisets.{often}
+use Rattle.round_kernel.specs.Codes.{number_at}
 
 -- the edge of an arc is in the view
 abbrev pub in_view : List Bool → Arc → Bool
@@ -48,9 +49,9 @@ pub record IsSized (graph : GraphData) (edges : List Bool) (degrees : List ℕ) 
   pub degrees_small : (u : ℕ) → u < length graph.ids → get_or degrees u 0 < 2 ^ 32
   pub values_size : length values ≡ length graph.ids
 
--- where messages are kept, that of a node is the one along each arc that leaves it
-abbrev pub AreSent : Bool → Program → GraphData → List ℕ → List Val → List Val → Type 0
-AreSent alike p graph degrees values sent = alike ≡ true → (length sent ≡ length graph.ids) × ((u e : ℕ) → u < length graph.ids → value_at sent u ≡ sent_by p graph u (value_at values u) (get_or degrees u 0) e)
+-- where messages are kept, that of a node is the one along each arc that leaves it, as a number
+abbrev pub AreSent : Bool → Program → GraphData → List ℕ → List Val → List ℤ → Type 0
+AreSent alike p graph degrees values sent = alike ≡ true → (length sent ≡ length graph.ids) × ((u e : ℕ) → u < length graph.ids → number_at sent u ≡ sent_by p graph u (value_at values u) (get_or degrees u 0) e)
 
 -- messages may be kept: they are the same along all arcs that leave a node, and there is an edge
 abbrev pub MayKeep : Bool → Program → GraphData → Type 0

@@ -6,7 +6,7 @@ use Rattle.vertex_lang.specs.Arcs.{is_sent, total}
 use Rattle.vertex_lang.specs.Values.{lesser, greater, greatest}
 use Rattle.round_kernel.specs.declared.span.Span.{Span}
 use Rattle.round_kernel.specs.declared.tally.Tally.{Tally}
-use Rattle.round_kernel.specs.Numbers.{value_in}
+use Rattle.round_kernel.specs.Codes.{value_in}
 
 -- the messages with one more; none isn't sent
 abbrev pub with_message : List Val → Val → List Val

@@ -27,8 +27,9 @@ use vertex_lang::{Program, Updater};
 /// What is kept of each node as a number; and, where many nodes are looked at, of the arcs of the new view by head.
 #[derive(Drop)]
 pub(crate) enum Feed {
-    /// The message of each node is the same along all arcs that leave it: the messages, and the tails of the arcs.
-    Messages(Vec<i64>, Option<Live<NodeNo>>),
+    /// The message of each node is the same along all arcs that leave it and is kept while each has a number: the tails of the
+    /// arcs.
+    Messages(Option<Live<NodeNo>>),
     /// The message is the value of the tail and the edge's property in this column, added: the values, and the tails of the
     /// arcs with the property.
     Steps(u32, Vec<i64>, Option<Live<Link>>),
@@ -49,10 +50,7 @@ impl Feed {
         ensures { IfOk result (StandsFed U.answer frame.entry 0) }
     {
         if lists.alike {
-            return match numbers_of(alloc, &lists.new_sent)? {
-                Some(numbers) => Ok(Feed::Messages(numbers, None)),
-                None => Ok(Feed::Nothing),
-            };
+            return Ok(Feed::Messages(None));
         }
         match step_column(frame.program) {
             Some(column) => match numbers_of(alloc, &lists.new_now)? {
@@ -76,9 +74,9 @@ impl Feed {
         ensures { IfOk result (StandsFed U.answer frame.entry _round) }
     {
         match self {
-            Feed::Messages(numbers, kept) => {
+            Feed::Messages(kept) => {
                 let live = tails_of(alloc, frame, kept)?;
-                Ok(Feed::Messages(numbers, Some(live)))
+                Ok(Feed::Messages(Some(live)))
             }
             Feed::Steps(column, numbers, kept) => {
                 let live = links_of(alloc, frame, column, kept)?;
@@ -105,7 +103,7 @@ impl Feed {
         ensures { StandsFed U.answer frame.entry (round + 1) self.new }
     {
         let all = match self {
-            Feed::Messages(numbers, _) => lists.alike && renew(numbers, &lists.new_sent, changes),
+            Feed::Messages(_) => true,
             Feed::Steps(_, numbers, _) => renew(numbers, &lists.new_now, changes),
             Feed::Nothing => true,
         };
@@ -134,9 +132,9 @@ impl Feed {
         ensures { result ≡ tally_of program.now.gather (got_values U.answer program.now graph.now (arcs_in rows.now.by_head side.now.edges.now) node.0 round) }
     {
         match self {
-            Feed::Messages(numbers, live) => match live {
-                Some(tails) => tally_tails(program.gather, numbers, tails.row(node)),
-                None => tally_arcs(program.gather, numbers, side.edges, rows.into(node)),
+            Feed::Messages(live) if side.alike => match live {
+                Some(tails) => tally_tails(program.gather, side.sent, tails.row(node)),
+                None => tally_arcs(program.gather, side.sent, side.edges, rows.into(node)),
             },
             Feed::Steps(column, numbers, live) => match live {
                 Some(links) => tally_links(program.gather, numbers, links.row(node)),
@@ -149,7 +147,7 @@ impl Feed {
                     rows.into(node),
                 ),
             },
-            Feed::Nothing => tally(program, graph, side, rows.into(node)),
+            _ => tally(program, graph, side, rows.into(node)),
         }
     }
 }

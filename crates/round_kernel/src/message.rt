@@ -10,12 +10,14 @@ ghost use Rattle.graph_model.specs.declared.value.Val.TheVariants.{Nil};
 ghost use Rattle.vertex_lang.specs.Values.{lesser};
 ghost use Rattle.vertex_lang.specs.Rounds.{value_at};
 ghost use Rattle.vertex_lang.specs.Expressions.{sent_by};
+ghost use Rattle.round_kernel.specs.Codes.{number_at};
 ghost use Rattle.round_kernel.specs.Sides.{in_view, IsTurned, brings, all_brought, AreSent, IsSized, AreLeft};
 ghost use Rattle.round_kernel.specs.Telling.{InMovers, AreStill, moves};
 ghost use Rattle.round_kernel.specs.Tallies.{tally_of};
 
 use crate::numbers::{step_column, stepped};
 use crate::sent::send;
+use crate::span::value_of;
 use crate::tally::{Tally, lesser_of};
 use crate::told::Movers;
 use crate::turned::has_edge;
@@ -33,7 +35,7 @@ pub(crate) struct Side<'a> {
     pub(crate) values: &'a [Val],
     /// Whether the message of a node is the same along all arcs that leave it, and is kept in `sent`.
     pub(crate) alike: bool,
-    pub(crate) sent: &'a [Val],
+    pub(crate) sent: &'a [i64],
 }
 
 /// Lists that are filled and emptied again.
@@ -85,11 +87,11 @@ fn send_along(program: &Program, graph: &Graph, side: &Side<'_>, arc: Arc) -> Va
 }
 
 // The message that is kept for a node.
-fn kept(sent: &[Val], node: usize) -> Val
+fn kept(sent: &[i64], node: usize) -> Val
     requires { node < length sent.now }
-    ensures { result ≡ value_at sent.now node }
+    ensures { result ≡ number_at sent.now node }
 {
-    sent[node]
+    value_of(sent[node])
 }
 
 /// What all that these arcs bring comes to, in one pass over them.

@@ -5,7 +5,8 @@ ghost use Rattle.graph_model.specs.declared.value.Val.TheVariants.{Num};
 ghost use Rattle.vertex_lang.specs.declared.program.Expr.TheVariants.{EdgeProp};
 ghost use Rattle.vertex_lang.specs.Expressions.{edge_value};
 ghost use Rattle.vertex_lang.specs.Values.{added};
-ghost use Rattle.round_kernel.specs.Numbers.{AreNumbers, AreRenewed, AreProper, IsStep, brought_by, brought_with, sent_from, sent_in_view, sent_with, value_in, code_of};
+ghost use Rattle.round_kernel.specs.Codes.{value_in, code_of};
+ghost use Rattle.round_kernel.specs.Numbers.{AreNumbers, AreRenewed, AreProper, IsStep, brought_by, brought_with, sent_from, sent_in_view, sent_with};
 ghost use Rattle.round_kernel.specs.Links.{sent_over};
 ghost use Rattle.round_kernel.specs.Tallies.{tally_of};
 
@@ -19,7 +20,7 @@ use surge_outside::NoMemory;
 use vertex_lang::{Arc, Expr, Gather, Program};
 
 /// A value as one number, where it is not the one that stands for none.
-fn number_of(value: Val) -> Option<i64>
+pub(crate) fn number_of(value: Val) -> Option<i64>
     ensures { IfSome result (λ z. value_in z ≡ value) }
 {
     match value {

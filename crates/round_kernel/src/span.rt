@@ -2,7 +2,7 @@
 
 ghost use Rattle.std.specs.Prelude.{◌≡◌, ◌<◌, ◌^◌, ◌==◌, if◌then◌else◌, [], List, fold};
 ghost use Rattle.graph_model.specs.declared.value.Val.TheVariants.{Nil, Num};
-ghost use Rattle.round_kernel.specs.Numbers.{value_in};
+ghost use Rattle.round_kernel.specs.Codes.{value_in};
 ghost use Rattle.round_kernel.specs.Spans.{IsSpan, sums_of, with_message};
 ghost use Rattle.round_kernel.specs.Tallies.{IsBounded, tally_of};
 ghost use Rattle.vertex_lang.specs.Mail.{extreme_with};
@@ -95,8 +95,8 @@ impl Span {
     }
 }
 
-// The value for which a number stands.
-fn value_of(number: i64) -> Val
+/// The value for which a number stands.
+pub(crate) fn value_of(number: i64) -> Val
     ensures { result ≡ value_in number }
 {
     if number == NONE {

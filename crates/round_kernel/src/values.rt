@@ -1,16 +1,18 @@
 //! The values of both views, round by round.
 
-ghost use Rattle.std.specs.Prelude.{◌≡◌, ◌<◌, ◌^◌, true, ℕ, List, length, map, get_or, slice_set, All, IfOk};
+ghost use Rattle.std.specs.Prelude.{◌≡◌, ◌<◌, ◌^◌, true, ℕ, List, length, map, get_or, slice_set, All, IfOk, IsTrue};
 ghost use Rattle.graph_model.specs.declared.value.Val.{Val};
 ghost use Rattle.vertex_lang.specs.Leaves.{IsChecked};
 ghost use Rattle.vertex_lang.specs.Expressions.{start_of};
 ghost use Rattle.vertex_lang.specs.Arcs.{outdeg};
 ghost use Rattle.vertex_lang.specs.Rounds.{nodes_of};
 ghost use Rattle.round_kernel.specs.Sides.{arcs_in, AreSent, MayKeep};
+ghost use Rattle.round_kernel.specs.Numbers.{IsPut};
 ghost use Rattle.round_kernel.specs.Histories.{AreStarts, HasChanges, AreChanged, changes_from, all_from};
 
 use crate::history::Change;
 use crate::message::is_other;
+use crate::numbers::number_of;
 use crate::sent::send;
 use graph_model::{EdgeNo, Graph, NodeNo, Val};
 use std::alloc::Global;
@@ -121,16 +123,17 @@ pub(crate) fn assign(now: &mut [Val], changes: &[Change])
     }
 }
 
-/// Gives each node that changes its new value, and its new message where messages are kept.
+/// Gives each node that changes its new value, and its new message where messages are kept. It tells whether they are kept
+/// from then on, as they are where each of them has a number.
 pub(crate) fn apply(
     program: &Program,
     graph: &Graph,
     alike: bool,
     degrees: &[u64],
     now: &mut [Val],
-    sent: &mut [Val],
+    sent: &mut [i64],
     changes: &[Change],
-)
+) -> bool
     requires within { All (λ c. c.node.0 < length now.old) changes.now }
     requires checked { IsChecked program.now graph.now }
     requires size { length now.old ≡ length graph.now.ids }
@@ -139,23 +142,26 @@ pub(crate) fn apply(
     requires keeps { MayKeep alike program.now graph.now }
     requires sent { AreSent alike program.now graph.now degrees.now now.old sent.old }
     ensures values { (after : List Val) → length after ≡ length now.old → HasChanges (length now.old) now.old after changes.now → now.new ≡ after }
-    ensures sent { AreSent alike program.now graph.now degrees.now now.new sent.new }
+    ensures only { IsTrue result → IsTrue alike }
+    ensures sent { AreSent result program.now graph.now degrees.now now.new sent.new }
 {
+    let mut kept = alike;
     for change in changes {
-        change_one(program, graph, alike, degrees, now, sent, *change);
+        kept = change_one(program, graph, kept, degrees, now, sent, *change);
     }
+    kept
 }
 
-// Gives a node its new value, and its new message where messages are kept.
+// Gives a node its new value, and its new message where messages are kept. It tells whether they are kept from then on.
 fn change_one(
     program: &Program,
     graph: &Graph,
     alike: bool,
     degrees: &[u64],
     now: &mut [Val],
-    sent: &mut [Val],
+    sent: &mut [i64],
     change: Change,
-)
+) -> bool
     requires node { change.node.0 < length now.old }
     requires checked { IsChecked program.now graph.now }
     requires size { length now.old ≡ length graph.now.ids }
@@ -164,12 +170,13 @@ fn change_one(
     requires keeps { MayKeep alike program.now graph.now }
     requires sent { AreSent alike program.now graph.now degrees.now now.old sent.old }
     ensures value { now.new ≡ slice_set now.old change.node.0 change.value }
-    ensures sent { AreSent alike program.now graph.now degrees.now now.new sent.new }
+    ensures only { IsTrue result → IsTrue alike }
+    ensures sent { AreSent result program.now graph.now degrees.now now.new sent.new }
 {
     let place = change.node.0 as usize;
     now[place] = change.value;
     if !alike {
-        return;
+        return false;
     }
     let message = send(
         program,
@@ -179,15 +186,21 @@ fn change_one(
         degrees[place],
         EdgeNo(0),
     );
-    put(sent, place, message);
+    put(sent, place, message)
 }
 
-// Keeps a message for a node.
-fn put(sent: &mut [Val], node: usize, message: Val)
+// Keeps a message for a node, and tells whether it has a number.
+fn put(sent: &mut [i64], node: usize, message: Val) -> bool
     requires { node < length sent.old }
-    ensures { sent.new ≡ slice_set sent.old node message }
+    ensures { IsTrue result → IsPut node message sent.old sent.new }
 {
-    sent[node] = message;
+    match number_of(message) {
+        Some(number) => {
+            sent[node] = number;
+            true
+        }
+        None => false,
+    }
 }
 
 /// Whether messages may be kept: they are the same along all arcs that leave a node, and there is an edge.
@@ -199,7 +212,8 @@ pub(crate) fn may_keep(program: &Program, graph: &Graph) -> bool
     alike && edges > 0
 }
 
-/// The message of each node, where messages are kept, and else nothing.
+/// Whether messages are kept, and the message of each node where they are. They are kept where they may be and each of them
+/// has a number.
 pub(crate) fn send_all(
     alloc: Global,
     program: &Program,
@@ -207,17 +221,18 @@ pub(crate) fn send_all(
     alike: bool,
     values: &[Val],
     degrees: &[u64],
-) -> Result<Vec<Val>, NoMemory>
+) -> Result<(bool, Vec<i64>), NoMemory>
     requires checked { IsChecked program.now graph.now }
     requires size { length values.now ≡ length graph.now.ids }
     requires degrees_size { length degrees.now ≡ length graph.now.ids }
     requires small { (u : ℕ) → u < length graph.now.ids → get_or degrees.now u 0 < 2 ^ 32 }
     requires keeps { MayKeep alike program.now graph.now }
-    ensures { IfOk result (λ sent. AreSent alike program.now graph.now degrees.now values.now sent.items) }
+    ensures only { IfOk result (λ r. IsTrue r.0 → IsTrue alike) }
+    ensures sent { IfOk result (λ r. AreSent r.0 program.now graph.now degrees.now values.now r.1.items) }
 {
     let mut sent = Vec::new(alloc);
     if !alike {
-        return Ok(sent);
+        return Ok((false, sent));
     }
     let count = graph.node_count();
     for node in 0..count {
@@ -230,9 +245,12 @@ pub(crate) fn send_all(
             degrees[place],
             EdgeNo(0),
         );
-        sent.push(message)?;
+        match number_of(message) {
+            Some(number) => sent.push(number)?,
+            None => return Ok((false, sent)),
+        }
     }
-    Ok(sent)
+    Ok((true, sent))
 }
 
 /// What leads from the one list of values to the other.

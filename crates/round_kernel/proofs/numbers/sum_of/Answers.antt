@@ -4,7 +4,7 @@ use Rattle.std.proofs.lemmas.Int.{ints, to_z-of_z}
 use Rattle.graph_model.specs.declared.value.Val.{Val}
 use Rattle.graph_model.specs.declared.value.Val.TheVariants.{Num}
 use Rattle.vertex_lang.specs.Values.{added, clamped}
-use Rattle.round_kernel.specs.Numbers.{value_in}
+use Rattle.round_kernel.specs.Codes.{value_in}
 use Rattle.round_kernel.proofs.Numbered.{number-is, clamped-is}
 use Rattle.round_kernel.proofs.numbers.sum_of.Goals as goal
 

@@ -3,7 +3,8 @@ use Rattle.std.proofs.lemmas.Int.{to_z-of_z}
 use Rattle.std.proofs.lemmas.List.{length-take}
 use Rattle.graph_model.specs.declared.value.Val.{Val}
 use Rattle.vertex_lang.specs.declared.arc.Arc.{Arc}
-use Rattle.round_kernel.specs.Numbers.{brought_by, value_in, sent_in_view}
+use Rattle.round_kernel.specs.Codes.{value_in}
+use Rattle.round_kernel.specs.Numbers.{brought_by, sent_in_view}
 use Rattle.round_kernel.specs.Spans.{IsSpan, with_message}
 use Rattle.round_kernel.proofs.Numbered.{sent-few, sent-more}
 use Rattle.round_kernel.proofs.numbers.tally_arcs.Goals as goal

@@ -5,7 +5,7 @@ use Rattle.graph_model.specs.declared.value.Val.{Val}
 use Rattle.vertex_lang.specs.Values.{added}
 use Rattle.round_kernel.specs.declared.live.Link.{Link}
 use Rattle.round_kernel.specs.Links.{sent_over}
-use Rattle.round_kernel.specs.Numbers.{number_at, value_in}
+use Rattle.round_kernel.specs.Codes.{number_at, value_in}
 use Rattle.round_kernel.specs.Spans.{IsSpan, with_message}
 use Rattle.round_kernel.proofs.Numbered.{sent-few, sent-more}
 use Rattle.round_kernel.proofs.numbers.tally_links.Goals as goal

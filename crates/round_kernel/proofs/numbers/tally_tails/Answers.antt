@@ -3,7 +3,8 @@ use Rattle.std.proofs.lemmas.Int.{to_z-of_z}
 use Rattle.std.proofs.lemmas.List.{length-take}
 use Rattle.graph_model.specs.declared.number.NodeNo.{NodeNo}
 use Rattle.graph_model.specs.declared.value.Val.{Val}
-use Rattle.round_kernel.specs.Numbers.{number_at, value_in, sent_from}
+use Rattle.round_kernel.specs.Codes.{number_at, value_in}
+use Rattle.round_kernel.specs.Numbers.{sent_from}
 use Rattle.round_kernel.specs.Spans.{IsSpan, with_message}
 use Rattle.round_kernel.proofs.Numbered.{sent-few, sent-more}
 use Rattle.round_kernel.proofs.numbers.tally_tails.Goals as goal

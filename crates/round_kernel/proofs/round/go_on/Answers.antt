@@ -1,4 +1,4 @@
-use Rattle.std.proofs.Common.{◌≡◌, ◌∙◌, ◌+◌, ◌<◌, ◌^◌, ℕ, false, List, length, get_or, sym, ap, subst, refl, arith}
+use Rattle.std.proofs.Common.{◌≡◌, ◌∙◌, ◌+◌, ◌<◌, ◌^◌, ℕ, ℤ, false, List, length, get_or, sym, ap, subst, refl, arith}
 use Rattle.std.specs.Vec.{with_items}
 use Rattle.std.proofs.lemmas.List.{with_items_is}
 use Rattle.graph_model.specs.declared.value.Val.{Val}
@@ -17,27 +17,27 @@ assign-requires g c = λ k d low.
     let had = changes-now g.U.Updater.answer c.args.frame c.args.round c.requires.frame c.requires.round c.changes_after.result.now c.changes_after.ensures in
     omega (arith, had.within k d low, ap (λ (vs : List Val). length vs) c.deref_mut.ensures.value, ap (λ (l : Lists). length l.old_now.items) c.catch_up_both.ensures.kept, c.requires.at.old_sized.values_size)
 
-pub apply-requires-clause-within : goal.apply-requires-clause-within
-apply-requires-clause-within g c = λ k d low.
+pub apply-lists-requires-clause-within : goal.apply-lists-requires-clause-within
+apply-lists-requires-clause-within g c = λ k d low.
     omega (arith, c.requires.after.within k d low, ap (λ (vs : List Val). length vs) c.deref_mut-2.ensures.value, ap (λ (l : Lists). length l.new_now.items) c.catch_up_both.ensures.kept, c.requires.at.new_now.sized.values_size)
 
-pub apply-requires-clause-size : goal.apply-requires-clause-size
-apply-requires-clause-size g c = omega (arith, ap (λ (vs : List Val). length vs) c.deref_mut-2.ensures.value, ap (λ (l : Lists). length l.new_now.items) c.catch_up_both.ensures.kept, c.requires.at.new_now.sized.values_size)
+pub apply-lists-requires-clause-size : goal.apply-lists-requires-clause-size
+apply-lists-requires-clause-size g c = omega (arith, ap (λ (vs : List Val). length vs) c.deref_mut-2.ensures.value, ap (λ (l : Lists). length l.new_now.items) c.catch_up_both.ensures.kept, c.requires.at.new_now.sized.values_size)
 
-pub apply-requires-clause-degrees_size : goal.apply-requires-clause-degrees_size
-apply-requires-clause-degrees_size g c = omega (arith, ap (λ (vs : List ℕ). length vs) c.deref.ensures.value, ap (λ (l : Lists). length l.new_degrees.items) c.catch_up_both.ensures.kept, c.requires.at.new_now.sized.degrees_size)
+pub apply-lists-requires-clause-degrees_size : goal.apply-lists-requires-clause-degrees_size
+apply-lists-requires-clause-degrees_size g c = omega (arith, ap (λ (vs : List ℕ). length vs) c.deref.ensures.value, ap (λ (l : Lists). length l.new_degrees.items) c.catch_up_both.ensures.kept, c.requires.at.new_now.sized.degrees_size)
 
-pub apply-requires-clause-small : goal.apply-requires-clause-small
-apply-requires-clause-small g c = λ u low.
+pub apply-lists-requires-clause-small : goal.apply-lists-requires-clause-small
+apply-lists-requires-clause-small g c = λ u low.
     subst (λ (ds : List ℕ). get_or ds u 0 < 2 ^ 32) (sym (c.deref.ensures.value ∙ ap (λ (l : Lists). l.new_degrees.items) c.catch_up_both.ensures.kept)) (c.requires.at.new_now.sized.degrees_small u low)
 
-pub apply-requires-clause-keeps : goal.apply-requires-clause-keeps
-apply-requires-clause-keeps g c =
+pub apply-lists-requires-clause-keeps : goal.apply-lists-requires-clause-keeps
+apply-lists-requires-clause-keeps g c =
     let f = c.args.frame in
     subst (λ (l : Lists). MayKeep l.alike f.program.now f.graph.now) (sym c.catch_up_both.ensures.kept) c.requires.at.keeps
 
-pub apply-requires-clause-sent : goal.apply-requires-clause-sent
-apply-requires-clause-sent g c =
+pub apply-lists-requires-clause-sent : goal.apply-lists-requires-clause-sent
+apply-lists-requires-clause-sent g c =
     let f = c.args.frame in
     sent-at _ f.program.now f.graph.now _ _ _ _ _ _ c.deref.ensures.value c.deref_mut-2.ensures.value c.deref_mut-3.ensures.value
     (subst (λ (l : Lists). AreSent l.alike f.program.now f.graph.now l.new_degrees.items l.new_now.items l.new_sent.items) (sym c.catch_up_both.ensures.kept) c.requires.at.new_sent)
@@ -53,33 +53,34 @@ returns-clause-at g c =
     let lists1 = c.catch_up_both.new.lists in
     let kept = c.catch_up_both.ensures.kept in
     let on = with_items lists1.old_now c.assign.new.now in
-    let nn = with_items lists1.new_now c.apply.new.now in
-    let ns = with_items lists1.new_sent c.apply.new.sent in
+    let nn = with_items lists1.new_now c.apply-lists.new.now in
+    let ns = with_items lists1.new_sent c.apply-lists.new.sent in
     let was_old : c.deref_mut.result.now ≡ lists0.old_now.items = c.deref_mut.ensures.value ∙ ap (λ (l : Lists). l.old_now.items) kept in
     let was_new : c.deref_mut-2.result.now ≡ lists0.new_now.items = c.deref_mut-2.ensures.value ∙ ap (λ (l : Lists). l.new_now.items) kept in
     let size_old : length c.deref_mut.result.now ≡ count_in f = ap (λ (vs : List Val). length vs) was_old ∙ c.requires.at.old_sized.values_size in
     let size_new : length c.deref_mut-2.result.now ≡ count_in f = ap (λ (vs : List Val). length vs) was_new ∙ c.requires.at.new_now.sized.values_size in
     let len_old : length c.assign.new.now ≡ lists1.old_now.len = omega (arith, c.assign.auto.now, ap (λ (vs : List Val). length vs) c.deref_mut.ensures.value, lists1.old_now.ok) in
-    let len_new : length c.apply.new.now ≡ lists1.new_now.len = omega (arith, c.apply.auto.now, ap (λ (vs : List Val). length vs) c.deref_mut-2.ensures.value, lists1.new_now.ok) in
-    let len_sent : length c.apply.new.sent ≡ lists1.new_sent.len = omega (arith, c.apply.auto.sent, ap (λ (vs : List Val). length vs) c.deref_mut-3.ensures.value, lists1.new_sent.ok) in
+    let len_new : length c.apply-lists.new.now ≡ lists1.new_now.len = omega (arith, c.apply-lists.auto.now, ap (λ (vs : List Val). length vs) c.deref_mut-2.ensures.value, lists1.new_now.ok) in
+    let len_sent : length c.apply-lists.new.sent ≡ lists1.new_sent.len = omega (arith, c.apply-lists.auto.sent, ap (λ (zs : List ℤ). length zs) c.deref_mut-3.ensures.value, lists1.new_sent.ok) in
     let is_old = with_items_is lists1.old_now c.assign.new.now len_old in
-    let is_new = with_items_is lists1.new_now c.apply.new.now len_new in
-    let is_sent = with_items_is lists1.new_sent c.apply.new.sent len_sent in
+    let is_new = with_items_is lists1.new_now c.apply-lists.new.now len_new in
+    let is_sent = with_items_is lists1.new_sent c.apply-lists.new.sent len_sent in
     let more_new = length-lone answer p graph (new_arcs f) (r + 1) in
     let more_old = length-lone answer p graph (arcs_in f.rows.now.by_head f.old.now) (r + 1) in
     let alike : lists1.alike ≡ lists0.alike = ap (λ (l : Lists). l.alike) kept in
     let degrees : lists1.new_degrees.items ≡ lists0.new_degrees.items = ap (λ (l : Lists). l.new_degrees.items) kept in
-    subst (λ (l : Lists). StandAt answer f (r + 1) (was_touched_at answer f (r + 1)) (record l { old_now = on; new_now = nn; new_sent = ns })) (sym kept)
-    (at-next answer f r lists0 lists1.old_before lists1.new_before on nn ns c.requires.at
-    (is_new ∙ c.apply.ensures.values (lone_at answer f (r + 1)) (more_new ∙ sym size_new) (moved (length c.deref_mut-2.result.now) (count_in f) c.deref_mut-2.result.now (lone_at answer f r) (lone_at answer f (r + 1)) (lone_at answer f (r + 1)) c.args.after.now c.args.after.now size_new (was_new ∙ c.requires.at.new_now.values_are) refl refl c.requires.after))
+    subst (λ (l : Lists). StandAt answer f (r + 1) (was_touched_at answer f (r + 1)) (record l { old_now = on; new_now = nn; alike = c.apply-lists.result; new_sent = ns })) (sym kept)
+    (at-next answer f r lists0 lists1.old_before lists1.new_before on nn c.apply-lists.result ns c.requires.at
+    (is_new ∙ c.apply-lists.ensures.values (lone_at answer f (r + 1)) (more_new ∙ sym size_new) (moved (length c.deref_mut-2.result.now) (count_in f) c.deref_mut-2.result.now (lone_at answer f r) (lone_at answer f (r + 1)) (lone_at answer f (r + 1)) c.args.after.now c.args.after.now size_new (was_new ∙ c.requires.at.new_now.values_are) refl refl c.requires.after))
     c.catch_up_both.ensures.new
     (λ one. is_old ∙ c.assign.ensures (old_lone_at answer f (r + 1)) (more_old ∙ sym size_old) (old-step answer f c.requires.frame r (length c.deref_mut.result.now) c.deref_mut.result.now (old_lone_at answer f (r + 1)) c.changes_after.result.now c.requires.round one size_old (was_old ∙ (c.requires.at.old_now one).values_are) refl c.changes_after.ensures))
     c.catch_up_both.ensures.old
-    (omega (arith, ap (λ (vs : List Val). length vs) is_new, c.apply.auto.now, size_new))
+    (omega (arith, ap (λ (vs : List Val). length vs) is_new, c.apply-lists.auto.now, size_new))
     (ap (λ (vs : List Val). length vs) c.catch_up_both.ensures.new ∙ length-lone answer p graph (new_arcs f) r)
     (omega (arith, ap (λ (vs : List Val). length vs) is_old, c.assign.auto.now, size_old))
     c.catch_up_both.ensures.old_size
-    (subst (λ b. AreSent b p graph lists0.new_degrees.items nn.items ns.items) alike (sent-at lists1.alike p graph _ _ _ _ _ _ (sym (c.deref.ensures.value ∙ degrees)) is_new is_sent c.apply.ensures.sent)))
+    (λ e. c.requires.at.keeps (sym alike ∙ c.apply-lists.ensures.only e))
+    (sent-at c.apply-lists.result p graph _ _ _ _ _ _ (sym (c.deref.ensures.value ∙ degrees)) is_new is_sent c.apply-lists.ensures.sent))
 
 pub returns-clause-idle : goal.returns-clause-idle
 returns-clause-idle g c =

@@ -10,25 +10,29 @@ abbrev no_change : Change
 no_change = record { node = record { 0 = 0 }; value = Nil }
 
 pub loop-change-init : goal.loop-change-init
-loop-change-init c = record { changed = λ after h. none-changed c.args.now.now after; size = refl; sent = c.requires.sent }
+loop-change-init c = record { changed = λ after h. none-changed c.args.now.now after; size = refl; only = λ e. e; sent = c.requires.sent }
 
-pub change_one-requires-clause-node : goal.change_one-requires-clause-node
-change_one-requires-clause-node c = omega (arith, c.requires.within c.loop-change.change-index no_change c.loop-change-test.true, c.loop-change.invariant.size)
+pub change_one-kept-requires-clause-node : goal.change_one-kept-requires-clause-node
+change_one-kept-requires-clause-node c = omega (arith, c.requires.within c.loop-change.change-index no_change c.loop-change-test.true, c.loop-change.invariant.size)
 
-pub change_one-requires-clause-size : goal.change_one-requires-clause-size
-change_one-requires-clause-size c = c.loop-change.invariant.size ∙ c.requires.size
+pub change_one-kept-requires-clause-size : goal.change_one-kept-requires-clause-size
+change_one-kept-requires-clause-size c = c.loop-change.invariant.size ∙ c.requires.size
+
+pub change_one-kept-requires-clause-keeps : goal.change_one-kept-requires-clause-keeps
+change_one-kept-requires-clause-keeps c = λ e. c.requires.keeps (c.loop-change.invariant.only e)
 
 pub loop-change-preserved : goal.loop-change-preserved
 loop-change-preserved c =
     let i = c.loop-change.change-index in
     let changes = c.args.changes.now in
     let x = get_or changes i no_change in
-    let set_is = c.change_one.ensures.value in
+    let set_is = c.change_one-kept.ensures.value in
     record {
       changed = λ after h. subst (λ (vs : List Val). AreChanged c.args.now.now after vs (take (i + 1) changes)) (sym set_is)
           (one-changed c.args.now.now after c.loop-change.now changes i no_change x.value c.loop-change-test.true (c.requires.within i no_change c.loop-change-test.true) (h i no_change c.loop-change-test.true) (c.loop-change.invariant.changed after h));
       size = ap (λ (vs : List Val). length vs) set_is ∙ length-set c.loop-change.now x.node.0 x.value ∙ c.loop-change.invariant.size;
-      sent = c.change_one.ensures.sent;
+      only = λ e. c.loop-change.invariant.only (c.change_one-kept.ensures.only e);
+      sent = c.change_one-kept.ensures.sent;
     }
 
 pub returns-clause-values : goal.returns-clause-values

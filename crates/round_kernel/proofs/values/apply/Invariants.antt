@@ -1,4 +1,4 @@
-use Rattle.std.proofs.Common.{◌≡◌, take, length, List}
+use Rattle.std.proofs.Common.{◌≡◌, take, length, List, true}
 use Rattle.std.specs.Prelude.{All}
 use Rattle.graph_model.specs.declared.value.Val.{Val}
 use Rattle.vertex_lang.specs.Rounds.{value_at}
@@ -10,5 +10,6 @@ abbrev pub invariant-loop-change : goal.invariant-loop-change
 invariant-loop-change l = record {
   changed : (after : List Val) → All (λ c. c.value ≡ value_at after c.node.0) l.changes → AreChanged l.initial.now after l.now (take l.change-index l.changes);
   size : length l.now ≡ length l.initial.now;
-  sent : AreSent l.alike l.program l.graph l.degrees l.now l.sent;
+  only : l.kept ≡ true → l.alike ≡ true;
+  sent : AreSent l.kept l.program l.graph l.degrees l.now l.sent;
 }

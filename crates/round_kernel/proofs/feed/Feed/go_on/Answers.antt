@@ -1,12 +1,11 @@
 use Rattle.std.proofs.Common.{◌≡◌, ◌∙◌, ◌+◌, sym, ap, subst, ℤ, List, length, arith}
 use Rattle.std.specs.Vec.{with_items}
-use Rattle.std.proofs.lemmas.Bool.{false≢true}
 use Rattle.std.proofs.lemmas.List.{with_items_is}
 use Rattle.round_kernel.specs.declared.feed.Feed.{Feed}
 use Rattle.round_kernel.specs.Feeds.{StandsFed}
-use Rattle.round_kernel.proofs.Feeding.{fed-messages, fed-values, messages-next, values-next, renewed-as}
+use Rattle.round_kernel.proofs.Feeding.{fed-values, values-next, renewed-as}
 use Rattle.round_kernel.proofs.feed.Feed.go_on.Goals as goal
-use Rattle.round_kernel.proofs.feed.Feed.go_on.Goals.{in-Messages+then-lists, in-Messages+else-lists, in-Steps, in-Nothing}
+use Rattle.round_kernel.proofs.feed.Feed.go_on.Goals.{in-Messages, in-Steps, in-Nothing}
 
 -- src/feed.rt:71:5
 pub returns-else-not-all : goal.returns-else-not-all
@@ -20,24 +19,15 @@ returns-else-not-all g c =
     let lists = c.args.lists.now in
     let at = c.requires.at in
     elim c.match-self.branch [
-      | in-Messages+then-lists w ↦
-          let numbers = w.in-Messages.numbers in
-          let after = w.renew.new.numbers in
-          let size : length after ≡ numbers.len = omega (arith, w.renew.auto.numbers, ap (λ (ns : List ℤ). length ns) w.deref_mut.ensures.value, numbers.ok) in
-          subst (λ (feed : Feed). StandsFed answer f (r + 1) feed) (sym w.self-is) (
-            (messages-next answer p graph all f.new.now lists.new_degrees.items lists.new_now.items r at.new_now c.args.changes.now c.requires.changes lists.alike lists.new_sent.items numbers.items (with_items numbers after).items at.new_sent w.if-lists.true
-                (renewed-as lists.new_sent.items w.deref.result.now c.args.changes.now numbers.items w.deref_mut.result.now (with_items numbers after).items after w.deref.ensures.value w.deref_mut.ensures.value (with_items_is numbers after size) (w.renew.ensures (sym w.all-is ∙ c.if-not-all.false)))
-                (fed-messages answer p graph all f.new.now r c.args.self.now c.requires.fed numbers w.in-Messages.field-1 w.in-Messages.is)),
-            (subst (λ (feed : Feed). StandsFed answer f r feed) w.in-Messages.is c.requires.fed).1,
-          )
-      | in-Messages+else-lists w ↦ absurd (false≢true (sym w.if-lists.false ∙ sym w.all-is ∙ c.if-not-all.false))
+      | in-Messages w ↦
+          subst (λ (feed : Feed). StandsFed answer f (r + 1) feed) (sym w.in-Messages.is ∙ sym w.self-is) (subst (λ (feed : Feed). StandsFed answer f r feed) w.in-Messages.is c.requires.fed)
       | in-Steps w ↦
           let numbers = w.in-Steps.numbers in
           let after = w.renew-all.new.numbers in
-          let size : length after ≡ numbers.len = omega (arith, w.renew-all.auto.numbers, ap (λ (ns : List ℤ). length ns) w.deref_mut-in-Steps.ensures.value, numbers.ok) in
+          let size : length after ≡ numbers.len = omega (arith, w.renew-all.auto.numbers, ap (λ (ns : List ℤ). length ns) w.deref_mut.ensures.value, numbers.ok) in
           subst (λ (feed : Feed). StandsFed answer f (r + 1) feed) (sym w.self-is) (
             (values-next answer p graph all f.new.now lists.new_degrees.items lists.new_now.items r at.new_now c.args.changes.now c.requires.changes w.in-Steps.field-0 numbers.items (with_items numbers after).items
-                (renewed-as lists.new_now.items w.deref-in-Steps.result.now c.args.changes.now numbers.items w.deref_mut-in-Steps.result.now (with_items numbers after).items after w.deref-in-Steps.ensures.value w.deref_mut-in-Steps.ensures.value (with_items_is numbers after size) (w.renew-all.ensures (sym w.all-is ∙ c.if-not-all.false)))
+                (renewed-as lists.new_now.items w.deref.result.now c.args.changes.now numbers.items w.deref_mut.result.now (with_items numbers after).items after w.deref.ensures.value w.deref_mut.ensures.value (with_items_is numbers after size) (w.renew-all.ensures (sym w.all-is ∙ c.if-not-all.false)))
                 (fed-values answer p graph all f.new.now r c.args.self.now c.requires.fed w.in-Steps.field-0 numbers w.in-Steps.field-2 w.in-Steps.is)),
             (subst (λ (feed : Feed). StandsFed answer f r feed) w.in-Steps.is c.requires.fed).1,
           )

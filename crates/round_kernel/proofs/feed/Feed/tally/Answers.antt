@@ -7,10 +7,10 @@ use Rattle.vertex_lang.specs.declared.arc.Arc.{Arc}
 use Rattle.vertex_lang.specs.Arcs.{IsArc}
 use Rattle.round_kernel.specs.declared.live.Link.{Link}
 use Rattle.round_kernel.specs.Links.{tail_of, link_of, sent_over}
-use Rattle.round_kernel.specs.Numbers.{sent_from, sent_in_view, sent_with}
+use Rattle.round_kernel.specs.Numbers.{sent_with}
 use Rattle.round_kernel.specs.Sides.{row_of}
 use Rattle.round_kernel.specs.Tallies.{tally_of}
-use Rattle.round_kernel.proofs.Feeding.{few, each, by-messages, by-tails, by-values, by-links, fed-messages, fed-tails, fed-values, fed-links}
+use Rattle.round_kernel.proofs.Feeding.{few, each, by-messages, by-tails, by-values, by-links, sent-is, fed-tails, fed-values, fed-links}
 use Rattle.round_kernel.proofs.Gathered.{row-few}
 use Rattle.round_kernel.proofs.Kept.{tally-got}
 use Rattle.round_kernel.proofs.feed.Feed.tally.Goals as goal
@@ -23,22 +23,22 @@ of-row all row v e P h = subst (λ (xs : List Arc). All P xs) (sym e) (All-filte
 
 pub tally_tails-requires-clause-few : goal.tally_tails-requires-clause-few
 tally_tails-requires-clause-few g c =
-    omega (arith, c.requires.rows.few, few tail_of c.args.rows.now.by_head c.args.side.now.edges.now (length c.args.graph.now.ids) c.in-Some.tails (fed-tails g.U.Updater.answer c.args.program.now c.args.graph.now c.args.rows.now.by_head c.args.side.now.edges.now c.args.round c.args.self.now c.requires.fed c.in-Messages.numbers c.in-Messages.live c.in-Some.tails c.in-Messages.is c.in-Some.is) c.args.node.0 c.requires.node c.row.result.now c.row.ensures)
+    omega (arith, c.requires.rows.few, few tail_of c.args.rows.now.by_head c.args.side.now.edges.now (length c.args.graph.now.ids) c.in-Some.tails (fed-tails g.U.Updater.answer c.args.program.now c.args.graph.now c.args.rows.now.by_head c.args.side.now.edges.now c.args.round c.args.self.now c.requires.fed c.in-Messages.live c.in-Some.tails c.in-Messages.is c.in-Some.is) c.args.node.0 c.requires.node c.row.result.now c.row.ensures)
 
 pub tally_tails-requires-clause-tails : goal.tally_tails-requires-clause-tails
 tally_tails-requires-clause-tails g c =
-    let has = fed-messages g.U.Updater.answer c.args.program.now c.args.graph.now c.args.rows.now.by_head c.args.side.now.edges.now c.args.round c.args.self.now c.requires.fed c.in-Messages.numbers c.in-Messages.live c.in-Messages.is in
-    each tail_of c.args.rows.now.by_head c.args.side.now.edges.now (length c.args.graph.now.ids) c.in-Some.tails (fed-tails g.U.Updater.answer c.args.program.now c.args.graph.now c.args.rows.now.by_head c.args.side.now.edges.now c.args.round c.args.self.now c.requires.fed c.in-Messages.numbers c.in-Messages.live c.in-Some.tails c.in-Messages.is c.in-Some.is) c.args.node.0 c.requires.node c.row.result.now c.row.ensures (λ (t : NodeNo). t.0 < length c.deref.result.now)
-    (All-weaker (IsArc c.args.graph.now) (λ (a : Arc). a.tail.0 < length c.deref.result.now) (λ a arc. omega (arith, arc.tail, has.size, c.deref.ensures.len)) c.args.rows.now.by_head c.requires.rows.arcs)
+    let size = (c.requires.sent c.if-side.true).0 in
+    each tail_of c.args.rows.now.by_head c.args.side.now.edges.now (length c.args.graph.now.ids) c.in-Some.tails (fed-tails g.U.Updater.answer c.args.program.now c.args.graph.now c.args.rows.now.by_head c.args.side.now.edges.now c.args.round c.args.self.now c.requires.fed c.in-Messages.live c.in-Some.tails c.in-Messages.is c.in-Some.is) c.args.node.0 c.requires.node c.row.result.now c.row.ensures (λ (t : NodeNo). t.0 < length c.args.side.now.sent.now)
+    (All-weaker (IsArc c.args.graph.now) (λ (a : Arc). a.tail.0 < length c.args.side.now.sent.now) (λ a arc. omega (arith, arc.tail, size)) c.args.rows.now.by_head c.requires.rows.arcs)
 
 pub tally_arcs-requires-clause-few : goal.tally_arcs-requires-clause-few
 tally_arcs-requires-clause-few g c = omega (arith, row-few c.args.rows.now.by_head c.into.result.now c.args.node.0 c.into.ensures, c.requires.rows.few)
 
 pub tally_arcs-requires-clause-tails : goal.tally_arcs-requires-clause-tails
 tally_arcs-requires-clause-tails g c =
-    let has = fed-messages g.U.Updater.answer c.args.program.now c.args.graph.now c.args.rows.now.by_head c.args.side.now.edges.now c.args.round c.args.self.now c.requires.fed c.in-Messages.numbers c.in-Messages.live c.in-Messages.is in
-    of-row c.args.rows.now.by_head c.into.result.now c.args.node.0 c.into.ensures (λ (a : Arc). a.tail.0 < length c.deref-in-None.result.now)
-    (All-weaker (IsArc c.args.graph.now) (λ (a : Arc). a.tail.0 < length c.deref-in-None.result.now) (λ a arc. omega (arith, arc.tail, has.size, c.deref-in-None.ensures.len)) c.args.rows.now.by_head c.requires.rows.arcs)
+    let size = (c.requires.sent c.if-side.true).0 in
+    of-row c.args.rows.now.by_head c.into.result.now c.args.node.0 c.into.ensures (λ (a : Arc). a.tail.0 < length c.args.side.now.sent.now)
+    (All-weaker (IsArc c.args.graph.now) (λ (a : Arc). a.tail.0 < length c.args.side.now.sent.now) (λ a arc. omega (arith, arc.tail, size)) c.args.rows.now.by_head c.requires.rows.arcs)
 
 pub tally_arcs-requires-clause-edges : goal.tally_arcs-requires-clause-edges
 tally_arcs-requires-clause-edges g c =
@@ -47,13 +47,13 @@ tally_arcs-requires-clause-edges g c =
 
 pub returns-in-Some : goal.returns-in-Some
 returns-in-Some g c =
-    c.tally_tails.ensures ∙ ap (λ (ns : List ℤ). tally_of c.args.program.now.gather (sent_from ns c.row.result.now)) c.deref.ensures.value
-    ∙ ap (λ (ms : List Val). tally_of c.args.program.now.gather ms) (by-tails g.U.Updater.answer c.args.program.now c.args.graph.now c.args.rows.now.by_head c.args.side.now.edges.now c.args.round c.requires.rows.arcs c.args.node.0 c.requires.node c.in-Some.tails c.in-Messages.numbers.items c.row.result.now (fed-messages g.U.Updater.answer c.args.program.now c.args.graph.now c.args.rows.now.by_head c.args.side.now.edges.now c.args.round c.args.self.now c.requires.fed c.in-Messages.numbers c.in-Messages.live c.in-Messages.is) (fed-tails g.U.Updater.answer c.args.program.now c.args.graph.now c.args.rows.now.by_head c.args.side.now.edges.now c.args.round c.args.self.now c.requires.fed c.in-Messages.numbers c.in-Messages.live c.in-Some.tails c.in-Messages.is c.in-Some.is) c.row.ensures)
+    c.tally_tails.ensures
+    ∙ ap (λ (ms : List Val). tally_of c.args.program.now.gather ms) (by-tails g.U.Updater.answer c.args.program.now c.args.graph.now c.args.rows.now.by_head c.args.side.now.edges.now c.args.round c.requires.rows.arcs c.args.node.0 c.requires.node c.in-Some.tails c.args.side.now.sent.now c.row.result.now (sent-is g.U.Updater.answer c.args.program.now c.args.graph.now c.args.rows.now.by_head c.args.side.now.edges.now c.args.side.now.degrees.now c.args.side.now.values.now c.args.round c.requires.side c.args.side.now.alike c.args.side.now.sent.now c.requires.sent c.if-side.true) (fed-tails g.U.Updater.answer c.args.program.now c.args.graph.now c.args.rows.now.by_head c.args.side.now.edges.now c.args.round c.args.self.now c.requires.fed c.in-Messages.live c.in-Some.tails c.in-Messages.is c.in-Some.is) c.row.ensures)
 
 pub returns-in-None : goal.returns-in-None
 returns-in-None g c =
-    c.tally_arcs.ensures ∙ ap (λ (ns : List ℤ). tally_of c.args.program.now.gather (sent_in_view ns c.args.side.now.edges.now c.into.result.now)) c.deref-in-None.ensures.value
-    ∙ ap (λ (ms : List Val). tally_of c.args.program.now.gather ms) (by-messages g.U.Updater.answer c.args.program.now c.args.graph.now c.args.rows.now.by_head c.args.side.now.edges.now c.args.round c.requires.rows.arcs c.args.node.0 c.requires.node c.in-Messages.numbers.items c.into.result.now (fed-messages g.U.Updater.answer c.args.program.now c.args.graph.now c.args.rows.now.by_head c.args.side.now.edges.now c.args.round c.args.self.now c.requires.fed c.in-Messages.numbers c.in-Messages.live c.in-Messages.is) c.into.ensures)
+    c.tally_arcs.ensures
+    ∙ ap (λ (ms : List Val). tally_of c.args.program.now.gather ms) (by-messages g.U.Updater.answer c.args.program.now c.args.graph.now c.args.rows.now.by_head c.args.side.now.edges.now c.args.round c.requires.rows.arcs c.args.node.0 c.requires.node c.args.side.now.sent.now c.into.result.now (sent-is g.U.Updater.answer c.args.program.now c.args.graph.now c.args.rows.now.by_head c.args.side.now.edges.now c.args.side.now.degrees.now c.args.side.now.values.now c.args.round c.requires.side c.args.side.now.alike c.args.side.now.sent.now c.requires.sent c.if-side.true) c.into.ensures)
 
 -- ---- values and a property
 
@@ -66,8 +66,8 @@ pub tally_links-requires-clause-tails : goal.tally_links-requires-clause-tails
 tally_links-requires-clause-tails g c =
     let has = fed-values g.U.Updater.answer c.args.program.now c.args.graph.now c.args.rows.now.by_head c.args.side.now.edges.now c.args.round c.args.self.now c.requires.fed c.in-Steps.column c.in-Steps.numbers c.in-Steps.live c.in-Steps.is in
     let links = fed-links g.U.Updater.answer c.args.program.now c.args.graph.now c.args.rows.now.by_head c.args.side.now.edges.now c.args.round c.args.self.now c.requires.fed c.in-Steps.column c.in-Steps.numbers c.in-Steps.live c.in-Some-live.links c.in-Steps.is c.in-Some-live.is in
-    each (link_of c.args.graph.now c.in-Steps.column) c.args.rows.now.by_head c.args.side.now.edges.now (length c.args.graph.now.ids) c.in-Some-live.links links.rows c.args.node.0 c.requires.node c.row-in-Some-live.result.now c.row-in-Some-live.ensures (λ (l : Link). l.tail.0 < length c.deref-in-Some-live.result.now)
-    (All-weaker (IsArc c.args.graph.now) (λ (a : Arc). a.tail.0 < length c.deref-in-Some-live.result.now) (λ a arc. omega (arith, arc.tail, has.size, c.deref-in-Some-live.ensures.len)) c.args.rows.now.by_head c.requires.rows.arcs)
+    each (link_of c.args.graph.now c.in-Steps.column) c.args.rows.now.by_head c.args.side.now.edges.now (length c.args.graph.now.ids) c.in-Some-live.links links.rows c.args.node.0 c.requires.node c.row-in-Some-live.result.now c.row-in-Some-live.ensures (λ (l : Link). l.tail.0 < length c.deref.result.now)
+    (All-weaker (IsArc c.args.graph.now) (λ (a : Arc). a.tail.0 < length c.deref.result.now) (λ a arc. omega (arith, arc.tail, has.size, c.deref.ensures.len)) c.args.rows.now.by_head c.requires.rows.arcs)
 
 pub tally_steps-requires-clause-few : goal.tally_steps-requires-clause-few
 tally_steps-requires-clause-few g c = omega (arith, row-few c.args.rows.now.by_head c.into-in-None-live.result.now c.args.node.0 c.into-in-None-live.ensures, c.requires.rows.few)
@@ -85,7 +85,7 @@ tally_steps-requires-clause-edges g c =
 
 pub returns-in-Some-live : goal.returns-in-Some-live
 returns-in-Some-live g c =
-    c.tally_links.ensures ∙ ap (λ (ns : List ℤ). tally_of c.args.program.now.gather (sent_over ns c.row-in-Some-live.result.now)) c.deref-in-Some-live.ensures.value
+    c.tally_links.ensures ∙ ap (λ (ns : List ℤ). tally_of c.args.program.now.gather (sent_over ns c.row-in-Some-live.result.now)) c.deref.ensures.value
     ∙ ap (λ (ms : List Val). tally_of c.args.program.now.gather ms) (by-links g.U.Updater.answer c.args.program.now c.args.graph.now c.args.rows.now.by_head c.args.side.now.edges.now c.args.round c.requires.rows.arcs c.args.node.0 c.requires.node c.in-Steps.column c.in-Some-live.links c.in-Steps.numbers.items c.row-in-Some-live.result.now (fed-values g.U.Updater.answer c.args.program.now c.args.graph.now c.args.rows.now.by_head c.args.side.now.edges.now c.args.round c.args.self.now c.requires.fed c.in-Steps.column c.in-Steps.numbers c.in-Steps.live c.in-Steps.is) (fed-links g.U.Updater.answer c.args.program.now c.args.graph.now c.args.rows.now.by_head c.args.side.now.edges.now c.args.round c.args.self.now c.requires.fed c.in-Steps.column c.in-Steps.numbers c.in-Steps.live c.in-Some-live.links c.in-Steps.is c.in-Some-live.is) c.row-in-Some-live.ensures)
 
 pub returns-in-None-live : goal.returns-in-None-live
@@ -96,11 +96,11 @@ returns-in-None-live g c =
 -- ---- nothing is kept
 
 pub tally-requires-clause-row : goal.tally-requires-clause-row
-tally-requires-clause-row g c = of-row c.args.rows.now.by_head c.into-in-Nothing.result.now c.args.node.0 c.into-in-Nothing.ensures (IsArc c.args.graph.now) c.requires.rows.arcs
+tally-requires-clause-row g c = of-row c.args.rows.now.by_head c.into-in_default.result.now c.args.node.0 c.into-in_default.ensures (IsArc c.args.graph.now) c.requires.rows.arcs
 
 pub tally-requires-clause-few : goal.tally-requires-clause-few
-tally-requires-clause-few g c = omega (arith, row-few c.args.rows.now.by_head c.into-in-Nothing.result.now c.args.node.0 c.into-in-Nothing.ensures, c.requires.rows.few)
+tally-requires-clause-few g c = omega (arith, row-few c.args.rows.now.by_head c.into-in_default.result.now c.args.node.0 c.into-in_default.ensures, c.requires.rows.few)
 
-pub returns-in-Nothing : goal.returns-in-Nothing
-returns-in-Nothing g c =
-    tally-got g.U.Updater.answer c.args.program.now c.args.graph.now c.args.rows.now.by_head c.args.side.now.edges.now c.args.side.now.degrees.now c.args.side.now.values.now c.args.round c.requires.side c.args.node.0 c.into-in-Nothing.result.now c.requires.rows.arcs c.into-in-Nothing.ensures c.tally.result c.tally.ensures
+pub returns-in_default : goal.returns-in_default
+returns-in_default g c =
+    tally-got g.U.Updater.answer c.args.program.now c.args.graph.now c.args.rows.now.by_head c.args.side.now.edges.now c.args.side.now.degrees.now c.args.side.now.values.now c.args.round c.requires.side c.args.node.0 c.into-in_default.result.now c.requires.rows.arcs c.into-in_default.ensures c.tally.result c.tally.ensures

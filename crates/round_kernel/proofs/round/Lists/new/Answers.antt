@@ -36,8 +36,8 @@ returns-clause-at g c =
       old_before = c.in_ok-old_before.old_before;
       new_now = c.in_ok-new_now.new_now;
       new_before = c.in_ok-new_before.new_before;
-      alike = c.may_keep-alike.result;
-      new_sent = c.in_ok-new_sent.new_sent;
+      alike = c.in_ok-alike.alike;
+      new_sent = c.in_ok-alike.new_sent;
       old_degrees = c.in_ok-old_degrees.old_degrees;
       new_degrees = c.in_ok-new_degrees.new_degrees;
       touched = c.in_ok-touched.touched;
@@ -73,6 +73,6 @@ returns-clause-at g c =
     (c.in_ok-watched.ensures.size ∙ count)
     c.in_ok-watched.ensures.tails
     (told-grouped (λ (a : Arc). a.tail.0) f.graph.now f.rows.now.by_head f.turned.now f.first f.old.now f.new.now c.in_ok-turned.turned n count c.in_ok-turned.ensures.rows c.in_ok-turned.ensures.same c.requires.arcs c.requires.turned)
-    c.may_keep-alike.ensures
-    (sent-at lists.alike f.program.now f.graph.now _ _ _ _ _ _ (sym c.deref-6.ensures.value) (sym c.deref-5.ensures.value) refl c.in_ok-new_sent.ensures)
+    (λ e. c.may_keep-may.ensures (c.in_ok-alike.ensures.only e))
+    (sent-at lists.alike f.program.now f.graph.now _ _ _ _ _ _ (sym c.deref-6.ensures.value) (sym c.deref-5.ensures.value) refl c.in_ok-alike.ensures.sent)
     (subst (λ (k : ℕ). IsQueue k c.in_ok-queue.queue) count c.in_ok-queue.ensures.queue)

@@ -4,7 +4,7 @@ use Rattle.graph_model.specs.declared.value.Val.TheVariants.{Nil}
 use Rattle.vertex_lang.specs.declared.program.Gather.{Gather}
 use Rattle.vertex_lang.specs.Mail.{extreme_with}
 use Rattle.std.specs.Prelude.{fold}
-use Rattle.round_kernel.specs.Numbers.{value_in}
+use Rattle.round_kernel.specs.Codes.{value_in}
 use Rattle.round_kernel.proofs.Spanning.{no-extreme}
 use Rattle.round_kernel.proofs.span.Span.extreme.Goals as goal
 
