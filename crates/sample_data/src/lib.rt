@@ -5,7 +5,7 @@
 //! them. Its model is `specs/Sample.antt`: the texts as functions of the number. It promises exactly these bytes.
 #![tactic(auto)]
 
-ghost use Rattle.std.specs.Prelude.{◌≡◌, ◌<◌, ◌≤◌, ◌+◌, ◌++◌, [], ◌∷◌, IfOk, OnOk};
+ghost use Rattle.std.specs.Prelude.{◌≡◌, ◌<◌, ◌≤◌, ◌+◌, ◌++◌, [], ◌∷◌, IfOk, OnOk, drop};
 ghost use Rattle.std.specs.Fmt.{decimal};
 ghost use Rattle.sample_data.specs.Sample.{nodes_text, edges_text, script_text, ids_from, edge_drawn, edges_drawn, edge_line, state_after};
 
@@ -21,11 +21,20 @@ const WEIGHTS: u32 = 9;
 
 const TIMES: u32 = 160;
 
+// The longest line of the nodes file, and of the edges file.
+const NODE_LINE: usize = 5;
+
+const EDGE_LINE: usize = 16;
+
+// Room for any four numbers, and a byte behind each.
+const LINE_ROOM: usize = 44;
+
 /// The nodes file, the same in each sample: ids 1 to 2,000. The error is want of memory.
 pub fn nodes(alloc: Global) -> Result<Vec<u8>, NoMemory>
     ensures { IfOk result (λ bytes. bytes.items ≡ nodes_text) }
 {
-    let mut text = Vec::from_slice(alloc, b"id\n")?;
+    let mut text = Vec::with_capacity(alloc, (NODES as usize + 1) * NODE_LINE)?;
+    text.extend_from_slice(b"id\n")?;
     push_ids(&mut text)?;
     Ok(text)
 }
@@ -46,29 +55,32 @@ fn push_ids(text: &mut Vec<u8>) -> Result<(), NoMemory>
 fn push_field(text: &mut Vec<u8>, number: u32, end: u8) -> Result<(), NoMemory>
     ensures { OnOk result (text.new.items ≡ text.old.items ++ (decimal number ++ end ∷ [])) }
 {
-    push_decimal(text, number)?;
-    text.push(end)?;
+    let mut room = [0u8; LINE_ROOM];
+    let start = lay_field(&mut room, LINE_ROOM, number, end);
+    text.extend_from_slice(&room[start..])?;
     Ok(())
 }
 
-// Adds the digits of a number.
-fn push_decimal(text: &mut Vec<u8>, number: u32) -> Result<(), NoMemory>
-    ensures { OnOk result (text.new.items ≡ text.old.items ++ decimal number) }
+// Lays the digits of a number, and the byte behind them, out before a place of the room, and tells where they begin.
+#[tactic(auto, using(crate::proofs::Digits::digits))]
+fn lay_field(room: &mut [u8; LINE_ROOM], place: usize, number: u32, end: u8) -> usize
+    requires space { 11 ≤ place }
+    requires within { place ≤ 44 }
+    ensures before { result < place }
+    ensures near { place ≤ result + 11 }
+    ensures field { drop result room.new ≡ decimal number ++ end ∷ drop place room.old }
 {
-    if number < 10 {
-        return push_digit(text, number);
+    let mut start = place - 1;
+    room[start] = end;
+    let mut rest = number;
+    while rest >= 10 {
+        start -= 1;
+        room[start] = b'0' + (rest % 10) as u8;
+        rest /= 10;
     }
-    push_decimal(text, number / 10)?;
-    push_digit(text, number % 10)
-}
-
-// Adds a digit.
-fn push_digit(text: &mut Vec<u8>, digit: u32) -> Result<(), NoMemory>
-    requires { digit < 10 }
-    ensures { OnOk result (text.new.items ≡ text.old.items ++ (48 + digit) ∷ []) }
-{
-    text.push(b'0' + digit as u8)?;
-    Ok(())
+    start -= 1;
+    room[start] = b'0' + rest as u8;
+    start
 }
 
 /// The edges file of the sample with this number: 10,000 edges with a weight from 1 to 9 and a time below 160. The error is
@@ -76,7 +88,8 @@ fn push_digit(text: &mut Vec<u8>, digit: u32) -> Result<(), NoMemory>
 pub fn edges(alloc: Global, number: u64) -> Result<Vec<u8>, NoMemory>
     ensures { IfOk result (λ bytes. bytes.items ≡ edges_text number) }
 {
-    let mut text = Vec::from_slice(alloc, b"src,dst,w:int,t:int\n")?;
+    let mut text = Vec::with_capacity(alloc, (EDGES as usize + 1) * EDGE_LINE)?;
+    text.extend_from_slice(b"src,dst,w:int,t:int\n")?;
     push_edges(&mut text, Draws::new(number))?;
     Ok(text)
 }
@@ -114,10 +127,13 @@ fn push_line(
 ) -> Result<(), NoMemory>
     ensures { OnOk result (text.new.items ≡ text.old.items ++ edge_line source destination weight time) }
 {
-    push_field(text, source, b',')?;
-    push_field(text, destination, b',')?;
-    push_field(text, weight, b',')?;
-    push_field(text, time, b'\n')
+    let mut room = [0u8; LINE_ROOM];
+    let start = lay_field(&mut room, LINE_ROOM, time, b'\n');
+    let start = lay_field(&mut room, start, weight, b',');
+    let start = lay_field(&mut room, start, destination, b',');
+    let start = lay_field(&mut room, start, source, b',');
+    text.extend_from_slice(&room[start..])?;
+    Ok(())
 }
 
 /// The script of each sample. The error is want of memory.
