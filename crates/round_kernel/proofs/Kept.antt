@@ -20,6 +20,7 @@ use Rattle.lone_work.specs.Work.{node_active, node_touched, node_marked, touched
 use Rattle.lone_work.specs.StepLaws.{counted-is, touched-is, counted-by-marks}
 use Rattle.round_kernel.specs.declared.tally.Tally.{Tally}
 use Rattle.round_kernel.specs.declared.tally.Kept.{Kept}
+use Rattle.vertex_lang.specs.Values.{clamped}
 use Rattle.round_kernel.specs.Tallies.{tally_of, kept_of, kept_at}
 use Rattle.round_kernel.specs.Sides.{arcs_in, row_of, all_brought, IsRound}
 use Rattle.round_kernel.specs.Rounds.{old_view, was_touched}
@@ -42,7 +43,7 @@ total-one ms ns s = fold-one same_value values-exact (λ (sum : ℤ) (m : Val). 
 pub kept-one : (kind : Gather) (ms ns : List Val) → are_one same_value ms ns ≡ true → kept_of (tally_of kind ms) ≡ kept_of (tally_of kind ns)
 kept-one kind ms ns e =
     let s : AreOne same_value ms ns = one-told same_value values-exact ms ns e in
-    kept-from (total ms) (total ns) (length ms) (length ns) (total-one ms ns s) (length-one ms ns s)
+    kept-from (clamped (total ms)) (clamped (total ns)) (length ms) (length ns) (ap clamped (total-one ms ns s)) (length-one ms ns s)
 
 -- where something else is kept of the round before, the node has a mark
 pub marked-kept : (answer : Answer) (p : Program) (graph : GraphData) (arcs : List Arc) (v r k : ℕ) → r ≡ suc k → (kept : Kept) (tally : Tally)

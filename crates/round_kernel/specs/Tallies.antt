@@ -40,7 +40,7 @@ pub record IsBounded (tally : Tally) : Type 0 where
 
 -- what is kept of messages
 abbrev pub kept_of : Tally → Kept
-kept_of tally = record { total = tally.total; count = tally.count }
+kept_of tally = record { total = clamped tally.total; count = tally.count }
 
 -- and of those that a node gets in a round of a view
 abbrev pub kept_at : Answer → Program → GraphData → List Arc → ℕ → ℕ → Kept

@@ -22,8 +22,8 @@ pub(crate) struct Tally {
 /// What is kept of the messages that a node got: enough to tell most of them from others.
 #[derive(Clone, Copy)]
 pub(crate) struct Kept {
-    /// Their exact sum.
-    pub(crate) total: i128,
+    /// Their sum, brought into the range of values.
+    pub(crate) total: i64,
     /// How many there are.
     pub(crate) count: u64,
 }
@@ -40,7 +40,7 @@ impl Kept {
     pub(crate) fn differs(self, tally: Tally) -> bool
         ensures { IsTrue result → self ≢ kept_of tally }
     {
-        self.total != tally.total || self.count != tally.count
+        self.total != clamp_number(tally.total) || self.count != tally.count
     }
 }
 
@@ -50,7 +50,7 @@ impl Tally {
         ensures { result ≡ kept_of self }
     {
         Kept {
-            total: self.total,
+            total: clamp_number(self.total),
             count: self.count,
         }
     }
