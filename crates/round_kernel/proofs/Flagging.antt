@@ -53,16 +53,26 @@ all-zero n u = elim (cases_lt u n) [
 ]
 
 pub told-start : (answer : Answer) (f : Frame) (touched : ℕ → Bool) (lists : Lists) → StandAt answer f 0 touched lists → (told : Told) (n : ℕ) → n ≡ count_in f
-    → length told.apart.items ≡ count_in f → ((u : ℕ) → u < count_in f → IsFlagged f lists u (get_or told.apart.items u false)) → told.moved.items ≡ replicate n 0
+    → length told.apart.items ≡ count_in f → (f.first ≡ false → (u : ℕ) → u < count_in f → IsFlagged f lists u (get_or told.apart.items u false)) → told.moved.items ≡ replicate n 0
     → TellTurned (λ a. a.head.0) f.graph.now f.rows.now.by_head f.first f.old.now f.new.now told.turned → StandsTold answer f 0 told
 told-start answer f touched lists at told n count size flags moved turned = record {
   apart_size = size;
   moved_size = ap (λ (ns : List ℕ). length ns) moved ∙ length-replicate {A = ℕ} n 0 ∙ count;
-  apart = λ first u e low unset. flag-tells answer f 0 touched lists at u (get_or told.apart.items u false) low first (flags u low) unset e;
+  apart = λ first u e low unset. flag-tells answer f 0 touched lists at u (get_or told.apart.items u false) low first (flags first u low) unset e;
   moved_past = λ u. omega (arith, ap (λ (ns : List ℕ). get_or ns u 0) moved, all-zero n u);
   moved = λ later. absurd (omega (arith, later));
   turned = turned;
 }
+
+-- where the message doesn't depend on how many arcs leave a node, no node sends something else
+pub none-apart : (answer : Answer) (f : Frame) (touched : ℕ → Bool) (lists : Lists) → IsFrame answer f f.limit → StandAt answer f 0 touched lists → f.by_degree ≡ false → f.first ≡ false → (u : ℕ) (flag : Bool) → IsFlagged f lists u flag
+unfolding lone
+none-apart answer f touched lists frame at by first u flag unset e =
+    let p = f.program.now in
+    let graph = f.graph.now in
+    let same : lists.old_now.items ≡ lists.new_now.items = (at.old_now first).values_are ∙ sym at.new_now.values_are in
+    ap (λ (vs : List Val). sent_by p graph u (value_at vs u) (get_or lists.old_degrees.items u 0) e) same
+    ∙ frame.degree by (send_words graph u (value_at lists.new_now.items u) 0 e) (get_or lists.old_degrees.items u 0) (get_or lists.new_degrees.items u 0)
 
 -- ---- one node after the other
 

@@ -34,17 +34,14 @@ impl Told {
         alloc: Global,
         frame: Frame<'_>,
         lists: &Lists,
-        _updater: &U,
+        updater: &U,
     ) -> Result<Told, NoMemory>
         requires frame { IsFrame U.answer frame frame.limit }
         requires at { StandAt U.answer frame 0 (was_touched_at U.answer frame 0) lists.now }
         ensures { IfOk result (StandsTold U.answer frame.entry 0) }
     {
         let count = frame.graph.node_count();
-        let mut apart = Vec::with_capacity(alloc, count as usize)?;
-        for node in 0..count {
-            apart.push(is_apart(frame, lists, NodeNo(node)))?;
-        }
+        let apart = apart_at_start(alloc, frame, lists, updater)?;
         let moved = vec![in alloc; 0u32; count as usize]?;
         let turned = Turned::new(alloc, count, frame.turned, true)?;
         Ok(Told {
@@ -141,6 +138,31 @@ impl Told {
             self.apart[place] = is_apart(frame, lists, node);
         }
     }
+}
+
+// Whether each node may send something else in both views at round 0. There it has the same value in both, so none does
+// unless the message depends on how many arcs leave a node.
+fn apart_at_start<U: Updater>(
+    alloc: Global,
+    frame: Frame<'_>,
+    lists: &Lists,
+    _updater: &U,
+) -> Result<Vec<bool>, NoMemory>
+    requires frame { IsFrame U.answer frame frame.limit }
+    requires at { StandAt U.answer frame 0 (was_touched_at U.answer frame 0) lists.now }
+    ensures size { IfOk result (λ flags. length flags.items ≡ count_in frame.entry) }
+    ensures flags { IfOk result (λ flags. frame.entry.first ≡ false → (u : ℕ) → u < count_in frame.entry → IsFlagged frame.entry lists.now u (get_or flags.items u false)) }
+{
+    let count = frame.graph.node_count();
+    if !frame.by_degree {
+        let none = vec![in alloc; false; count as usize]?;
+        return Ok(none);
+    }
+    let mut flags = Vec::with_capacity(alloc, count as usize)?;
+    for node in 0..count {
+        flags.push(is_apart(frame, lists, NodeNo(node)))?;
+    }
+    Ok(flags)
 }
 
 // Whether a node may send something else in both views: where its value or the number of arcs that leave it differs.
