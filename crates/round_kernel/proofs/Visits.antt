@@ -102,6 +102,9 @@ module _ (answer : Answer) (p : Program) (graph : GraphData) (arcs : List Arc) (
 -- ---- counted
 
 module _ (answer : Answer) (p : Program) (graph : GraphData) (new : List Arc) (old : Option (List Arc)) (v r : ℕ) where
+  pub counted-marked : node_touched answer p graph new old v r ≡ true → node_marked answer p graph (Some new) v r ≡ true → node_counted answer p graph new old v r ≡ true
+  counted-marked t m = counted-by-marks answer p graph new old v r t ∙ ap (λ (b : Bool). b || node_marked answer p graph old v r) m
+
   pub counted-where : (m o : Bool) → node_touched answer p graph new old v r ≡ true → m ≡ node_marked answer p graph (Some new) v r → (0 < r → o ≡ node_marked answer p graph old v r) → (r ≡ 0 → m ≡ true)
       → node_counted answer p graph new old v r ≡ (m || o)
   counted-where m o t em eo first = elim (cases_Bool m) [

@@ -1,6 +1,6 @@
 //! A visit to a node in a round.
 
-ghost use Rattle.std.specs.Prelude.{◌≡◌, ◌<◌, ◌+◌, ◌-◌, ◌++◌, ◌&&◌, ◌||◌, [], not, true, false, length, Some, IfOk, OnOk, if◌then◌else◌};
+ghost use Rattle.std.specs.Prelude.{◌≡◌, ◌<◌, ◌+◌, ◌-◌, ◌++◌, ◌&&◌, ◌||◌, [], not, true, false, length, Some, IfOk, OnOk, IsTrue, IsFalse, if◌then◌else◌};
 ghost use Rattle.vertex_lang.specs.Leaves.{IsChecked};
 ghost use Rattle.vertex_lang.specs.Expressions.{start_of};
 ghost use Rattle.vertex_lang.specs.Rounds.{value_at, lone};
@@ -122,7 +122,8 @@ pub(crate) fn visit<U: Updater>(
     )
 }
 
-// Visits a node that is touched.
+// Visits a node that is touched. What comes of its messages is asked for in two places, so that the compiler keeps the loop
+// over them in a function of its own, where what it sums up stays in registers.
 fn visit_touched<U: Updater>(
     program: &Program,
     graph: &Graph,
@@ -136,6 +137,89 @@ fn visit_touched<U: Updater>(
     made: &mut Made,
     updater: &mut U,
 ) -> Result<u64, NoMemory>
+    requires checked { IsChecked program.now graph.now }
+    requires rows { AreRows graph.now rows.now }
+    requires node { spot.node.0 < length graph.now.ids }
+    requires start { spot.start ≡ start_of program.now graph.now spot.node.0 }
+    requires new { IsRound U.answer program.now graph.now rows.now.by_head sides.now.new.edges.now sides.now.new.degrees.now sides.now.new.values.now spot.round }
+    requires before { IsRound U.answer program.now graph.now rows.now.by_head sides.now.new.edges.now sides.now.new.degrees.now sides.now.before.now (spot.round - 1) }
+    requires marked { 0 < spot.round → spot.marked ≡ node_marked U.answer program.now graph.now (old_view spot.first rows.now.by_head sides.now.old.edges.now) spot.node.0 spot.round }
+    requires was { was ≡ was_touched U.answer program.now graph.now rows.now.by_head spot.first sides.now.old.edges.now sides.now.new.edges.now spot.round spot.node.0 }
+    requires kept { 0 < spot.round → was ≡ true → kept.old ≡ kept_at U.answer program.now graph.now (arcs_in rows.now.by_head sides.now.new.edges.now) (spot.round - 1) spot.node.0 }
+    requires touched { node_touched U.answer program.now graph.now (arcs_in rows.now.by_head sides.now.new.edges.now) (old_view spot.first rows.now.by_head sides.now.old.edges.now) spot.node.0 spot.round ≡ true }
+    requires new_sent { AreSent sides.now.new.alike program.now graph.now sides.now.new.degrees.now sides.now.new.values.now sides.now.new.sent.now }
+    requires aided { IsAided U.answer program.now graph.now rows.now.by_head spot.first sides.now.old.edges.now sides.now.new.edges.now spot.round aids.now }
+    ensures kept { OnOk result (kept.new ≡ kept_at U.answer program.now graph.now (arcs_in rows.now.by_head sides.now.new.edges.now) spot.round spot.node.0) }
+    ensures count { IfOk result (λ n. n ≡ (if node_counted U.answer program.now graph.now (arcs_in rows.now.by_head sides.now.new.edges.now) (old_view spot.first rows.now.by_head sides.now.old.edges.now) spot.node.0 spot.round then 1 else 0)) }
+    ensures marks { OnOk result (made.new.marks ≡ made.old.marks ++ mark_if (node_marked U.answer program.now graph.now (Some (arcs_in rows.now.by_head sides.now.new.edges.now)) spot.node.0 spot.round) spot.node) }
+    ensures changes { let values = lone U.answer program.now graph.now (arcs_in rows.now.by_head sides.now.new.edges.now) in
+        OnOk result (made.new.changes ≡ made.old.changes ++ change_if (not (same_value (value_at (values (spot.round + 1)) spot.node.0) (value_at (values spot.round) spot.node.0))) spot.node (value_at (values (spot.round + 1)) spot.node.0)) }
+    ensures calls { IfOk result (λ n. U.calls updater.new ≡ U.calls updater.old + n) }
+{
+    if is_new_input(program, graph, rows, sides, spot, was, updater) {
+        return visit_marked(
+            program, graph, rows, sides, spot, kept, aids, made, updater,
+        );
+    }
+    visit_again(
+        program, graph, rows, sides, spot, was, kept, aids, scratch, made, updater,
+    )
+}
+
+// Visits a touched node whose input is another than in the round before.
+fn visit_marked<U: Updater>(
+    program: &Program,
+    graph: &Graph,
+    rows: &Rows,
+    sides: &Sides<'_>,
+    spot: Spot,
+    kept: &mut Kept,
+    aids: &Aids,
+    made: &mut Made,
+    updater: &mut U,
+) -> Result<u64, NoMemory>
+    requires checked { IsChecked program.now graph.now }
+    requires rows { AreRows graph.now rows.now }
+    requires node { spot.node.0 < length graph.now.ids }
+    requires start { spot.start ≡ start_of program.now graph.now spot.node.0 }
+    requires new { IsRound U.answer program.now graph.now rows.now.by_head sides.now.new.edges.now sides.now.new.degrees.now sides.now.new.values.now spot.round }
+    requires marked { node_marked U.answer program.now graph.now (Some (arcs_in rows.now.by_head sides.now.new.edges.now)) spot.node.0 spot.round ≡ true }
+    requires touched { node_touched U.answer program.now graph.now (arcs_in rows.now.by_head sides.now.new.edges.now) (old_view spot.first rows.now.by_head sides.now.old.edges.now) spot.node.0 spot.round ≡ true }
+    requires new_sent { AreSent sides.now.new.alike program.now graph.now sides.now.new.degrees.now sides.now.new.values.now sides.now.new.sent.now }
+    requires aided { IsAided U.answer program.now graph.now rows.now.by_head spot.first sides.now.old.edges.now sides.now.new.edges.now spot.round aids.now }
+    ensures kept { OnOk result (kept.new ≡ kept_at U.answer program.now graph.now (arcs_in rows.now.by_head sides.now.new.edges.now) spot.round spot.node.0) }
+    ensures count { IfOk result (λ n. n ≡ (if node_counted U.answer program.now graph.now (arcs_in rows.now.by_head sides.now.new.edges.now) (old_view spot.first rows.now.by_head sides.now.old.edges.now) spot.node.0 spot.round then 1 else 0)) }
+    ensures marks { OnOk result (made.new.marks ≡ made.old.marks ++ mark_if (node_marked U.answer program.now graph.now (Some (arcs_in rows.now.by_head sides.now.new.edges.now)) spot.node.0 spot.round) spot.node) }
+    ensures changes { let values = lone U.answer program.now graph.now (arcs_in rows.now.by_head sides.now.new.edges.now) in
+        OnOk result (made.new.changes ≡ made.old.changes ++ change_if (not (same_value (value_at (values (spot.round + 1)) spot.node.0) (value_at (values spot.round) spot.node.0))) spot.node (value_at (values (spot.round + 1)) spot.node.0)) }
+    ensures calls { IfOk result (λ n. U.calls updater.new ≡ U.calls updater.old + n) }
+{
+    let tally = aids.feed.tally(
+        program, graph, rows, &sides.new, spot.node, spot.round, updater,
+    );
+    *kept = tally.kept();
+    push_mark(&mut made.marks, true, spot.node)?;
+    let value = evaluate(program, graph, rows, &sides.new, spot, tally, updater);
+    let changed = is_other(value, sides.new.values[spot.node.0 as usize]);
+    push_change(&mut made.changes, changed, spot.node, value)?;
+    Ok(1)
+}
+
+// Visits a touched node of which it isn't known whether its input is another than in the round before.
+fn visit_again<U: Updater>(
+    program: &Program,
+    graph: &Graph,
+    rows: &Rows,
+    sides: &Sides<'_>,
+    spot: Spot,
+    was: bool,
+    kept: &mut Kept,
+    aids: &Aids,
+    scratch: &mut Scratch,
+    made: &mut Made,
+    updater: &mut U,
+) -> Result<u64, NoMemory>
+    requires later { 0 < spot.round }
     requires checked { IsChecked program.now graph.now }
     requires rows { AreRows graph.now rows.now }
     requires node { spot.node.0 < length graph.now.ids }
@@ -170,6 +254,29 @@ fn visit_touched<U: Updater>(
     let changed = is_other(value, sides.new.values[spot.node.0 as usize]);
     push_change(&mut made.changes, changed, spot.node, value)?;
     Ok(1)
+}
+
+// Whether the input of a touched node is known to be another than in the round before: in round 0, and where the node was just
+// touched and had no mark in the view before.
+fn is_new_input<U: Updater>(
+    program: &Program,
+    graph: &Graph,
+    rows: &Rows,
+    sides: &Sides<'_>,
+    spot: Spot,
+    was: bool,
+    _updater: &U,
+) -> bool
+    requires marked { 0 < spot.round → spot.marked ≡ node_marked U.answer program.now graph.now (old_view spot.first rows.now.by_head sides.now.old.edges.now) spot.node.0 spot.round }
+    requires was { was ≡ was_touched U.answer program.now graph.now rows.now.by_head spot.first sides.now.old.edges.now sides.now.new.edges.now spot.round spot.node.0 }
+    requires touched { node_touched U.answer program.now graph.now (arcs_in rows.now.by_head sides.now.new.edges.now) (old_view spot.first rows.now.by_head sides.now.old.edges.now) spot.node.0 spot.round ≡ true }
+    ensures marked { IsTrue result → node_marked U.answer program.now graph.now (Some (arcs_in rows.now.by_head sides.now.new.edges.now)) spot.node.0 spot.round ≡ true }
+    ensures later { IsFalse result → 0 < spot.round }
+{
+    if spot.round == 0 {
+        return true;
+    }
+    !was && !spot.marked
 }
 
 // Whether a node was active in a round up to this one.
@@ -211,8 +318,7 @@ fn is_touched<U: Updater>(
 }
 
 // Whether the input of a touched node differs from that of the round before, in the new view. Most often what it gets
-// tells it by its sum and count, or that it was just touched and had no mark in the view before; only else its arcs are
-// looked at again.
+// tells it by its sum and count; only else its arcs are looked at again.
 fn is_marked<U: Updater>(
     program: &Program,
     graph: &Graph,
@@ -226,26 +332,19 @@ fn is_marked<U: Updater>(
     scratch: &mut Scratch,
     updater: &U,
 ) -> Result<bool, NoMemory>
+    requires later { 0 < spot.round }
     requires checked { IsChecked program.now graph.now }
     requires rows { AreRows graph.now rows.now }
     requires node { spot.node.0 < length graph.now.ids }
     requires new { IsRound U.answer program.now graph.now rows.now.by_head sides.now.new.edges.now sides.now.new.degrees.now sides.now.new.values.now spot.round }
     requires before { IsRound U.answer program.now graph.now rows.now.by_head sides.now.new.edges.now sides.now.new.degrees.now sides.now.before.now (spot.round - 1) }
-    requires marked { 0 < spot.round → spot.marked ≡ node_marked U.answer program.now graph.now (old_view spot.first rows.now.by_head sides.now.old.edges.now) spot.node.0 spot.round }
     requires was { was ≡ was_touched U.answer program.now graph.now rows.now.by_head spot.first sides.now.old.edges.now sides.now.new.edges.now spot.round spot.node.0 }
     requires kept { 0 < spot.round → was ≡ true → kept ≡ kept_at U.answer program.now graph.now (arcs_in rows.now.by_head sides.now.new.edges.now) (spot.round - 1) spot.node.0 }
     requires tally { tally ≡ tally_of program.now.gather (got_values U.answer program.now graph.now (arcs_in rows.now.by_head sides.now.new.edges.now) spot.node.0 spot.round) }
-    requires touched { node_touched U.answer program.now graph.now (arcs_in rows.now.by_head sides.now.new.edges.now) (old_view spot.first rows.now.by_head sides.now.old.edges.now) spot.node.0 spot.round ≡ true }
     requires new_sent { AreSent sides.now.new.alike program.now graph.now sides.now.new.degrees.now sides.now.new.values.now sides.now.new.sent.now }
     requires aided { IsAided U.answer program.now graph.now rows.now.by_head spot.first sides.now.old.edges.now sides.now.new.edges.now spot.round aids.now }
     ensures { IfOk result (λ b. b ≡ node_marked U.answer program.now graph.now (Some (arcs_in rows.now.by_head sides.now.new.edges.now)) spot.node.0 spot.round) }
 {
-    if spot.round == 0 {
-        return Ok(true);
-    }
-    if !was && !spot.marked {
-        return Ok(true);
-    }
     if was && kept.differs(tally) {
         return Ok(true);
     }

@@ -8,7 +8,7 @@ use Rattle.round_kernel.specs.Made.{change_if}
 use Rattle.round_kernel.specs.declared.tally.Tally.{Tally}
 use Rattle.round_kernel.specs.Tallies.{kept_of}
 use Rattle.round_kernel.proofs.Visits.{marked-first, counted-where, stays-unchanged}
-use Rattle.round_kernel.proofs.visit.visit_touched.Goals as goal
+use Rattle.round_kernel.proofs.visit.visit_again.Goals as goal
 
 pub is_marked-requires-clause-tally : goal.is_marked-requires-clause-tally
 is_marked-requires-clause-tally g c = c.tally-tally.ensures

@@ -1,0 +1,16 @@
+use Rattle.std.proofs.Common.{◌∙◌, ◌<◌, sym, arith}
+use Rattle.std.proofs.lemmas.Bool.{not-true}
+use Rattle.round_kernel.specs.Sides.{arcs_in}
+use Rattle.round_kernel.proofs.Visits.{marked-first}
+use Rattle.round_kernel.proofs.Kept.{marked-new}
+use Rattle.round_kernel.proofs.visit.is_new_input.Goals as goal
+
+pub returns-then-spot-eq0-clause-marked : goal.returns-then-spot-eq0-clause-marked
+returns-then-spot-eq0-clause-marked g c = λ t. sym (marked-first g.U.Updater.answer c.args.program.now c.args.graph.now (arcs_in c.args.rows.now.by_head c.args.sides.now.new.edges.now) c.args.spot.node.0 c.args.spot.round c.if-spot-eq0.true)
+
+pub returns-then-not-was-clause-marked : goal.returns-then-not-was-clause-marked
+returns-then-not-was-clause-marked g c = λ t.
+    let r = c.args.spot.round in
+    let later : 0 < r = omega arith in
+    sym (marked-new g.U.Updater.answer c.args.program.now c.args.graph.now c.args.rows.now.by_head c.args.sides.now.old.edges.now c.args.sides.now.new.edges.now c.args.spot.node.0 r
+    c.args.spot.first c.args.was c.args.spot.marked c.requires.was c.requires.touched (c.requires.marked later) c.if-not-was.true (not-true c.args.spot.marked t))

@@ -1,0 +1,20 @@
+use Rattle.std.proofs.Common.{◌∙◌, ap, sym, ℕ, Bool, true, refl}
+use Rattle.std.specs.Prelude.{if◌then◌else◌}
+use Rattle.round_kernel.specs.Sides.{arcs_in}
+use Rattle.round_kernel.specs.Rounds.{old_view}
+use Rattle.round_kernel.specs.declared.tally.Tally.{Tally}
+use Rattle.round_kernel.specs.Tallies.{kept_of}
+use Rattle.round_kernel.proofs.Visits.{counted-marked}
+use Rattle.round_kernel.proofs.visit.visit_marked.Goals as goal
+
+pub evaluate-value-requires-clause-tally : goal.evaluate-value-requires-clause-tally
+evaluate-value-requires-clause-tally g c = c.tally-tally.ensures
+
+pub returns-clause-kept : goal.returns-clause-kept
+returns-clause-kept g c = c.kept.ensures ∙ ap (λ (t : Tally). kept_of t) c.tally-tally.ensures
+
+pub returns-clause-count : goal.returns-clause-count
+returns-clause-count g c =
+    let new = arcs_in c.args.rows.now.by_head c.args.sides.now.new.edges.now in
+    let old = old_view c.args.spot.first c.args.rows.now.by_head c.args.sides.now.old.edges.now in
+    sym (ap {B = ℕ} (λ (b : Bool). if b then 1 else 0) (counted-marked g.U.Updater.answer c.args.program.now c.args.graph.now new old c.args.spot.node.0 c.args.spot.round c.requires.touched c.requires.marked))
