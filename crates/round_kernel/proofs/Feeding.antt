@@ -28,7 +28,7 @@ use Rattle.round_kernel.specs.Links.{tail_of, link_of, sent_over}
 use Rattle.round_kernel.specs.Lives.{AreLive, kept_for}
 use Rattle.round_kernel.specs.Codes.{number_at, value_in, code_of}
 use Rattle.round_kernel.specs.Numbers.{sent_from, sent_in_view, sent_with, AreNumbers, AreRenewed, IsStep}
-use Rattle.round_kernel.specs.Sides.{in_view, arcs_in, row_of, AreSent, IsRound}
+use Rattle.round_kernel.specs.Sides.{in_view, arcs_in, row_of, AreSent, MayKeep, IsRound}
 use Rattle.round_kernel.specs.Telling.{sent_in}
 use Rattle.round_kernel.proofs.Filling.{unchanged-at}
 use Rattle.round_kernel.proofs.Gathered.{row-few}
@@ -201,7 +201,10 @@ renewed-as values vs cs before bs after zs ev eb ea h =
 
 module _ (answer : Answer) (p : Program) (graph : GraphData) (all : List Arc) (edges : List Bool) (r : ℕ) (feed : Feed) (fed : IsFed answer p graph all edges r feed) where
   pub fed-tails : (live : Option (Live NodeNo)) (tails : Live NodeNo) → feed ≡ feeds.Messages live → live ≡ Some tails → AreTails graph all edges tails
-  fed-tails live tails e is = subst (λ (o : Option (Live NodeNo)). IfSome o (AreTails graph all edges)) is (subst (λ (f : Feed). IsFed answer p graph all edges r f) e fed)
+  fed-tails live tails e is = subst (λ (o : Option (Live NodeNo)). IfSome o (AreTails graph all edges)) is (subst (λ (f : Feed). IsFed answer p graph all edges r f) e fed).1
+
+  pub fed-keeps : (live : Option (Live NodeNo)) → feed ≡ feeds.Messages live → MayKeep true p graph
+  fed-keeps live e = (subst (λ (f : Feed). IsFed answer p graph all edges r f) e fed).0
 
   pub fed-values : (column : ℕ) (numbers : Vec ℤ Global) (live : Option (Live Link)) → feed ≡ feeds.Steps column numbers live → HasValues answer p graph all edges r column numbers.items
   fed-values column numbers live e = (subst (λ (f : Feed). IsFed answer p graph all edges r f) e fed).0

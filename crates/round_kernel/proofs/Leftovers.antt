@@ -123,7 +123,7 @@ module _ {eq : Val → Val → Bool} (matches : (x y : Val) → eq x y ≡ same_
     one = λ x y e. values-exact.one x y (sym (matches x y) ∙ e);
   }
 
-  left-told : (first second all more : List Val) (b : Bool) → AreLeft first second all more → b ≡ are_one eq first second → b ≡ are_one same_value all more
+  pub left-told : (first second all more : List Val) (b : Bool) → AreLeft first second all more → b ≡ are_one eq first second → b ≡ are_one same_value all more
   left-told first second all more b l d = d ∙ both_ways (are_one eq first second) (are_one same_value all more)
       (λ h. one-tells same_value all more (record { counts = λ z. omega (arith, l.counts z, (permuted-one same_value first second (one-permuted eq exact first second (one-told eq exact first second h))).counts z) }))
       (λ h. one-tells eq first second (permuted-one eq first second (one-permuted same_value values-exact first second (record { counts = λ z. omega (arith, l.counts z, (one-told same_value values-exact all more h).counts z) }))))

@@ -33,3 +33,4 @@ pub mod Spanning
 pub mod Picked
 pub mod Proper
 pub mod Turning
+pub mod Listed

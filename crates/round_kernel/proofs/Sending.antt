@@ -20,7 +20,7 @@ sent-at alike p graph degrees ds values vs sent ss ed ev es h =
     subst (λ (xs : List ℕ). AreSent alike p graph xs vs ss) (sym ed) (subst (λ (xs : List Val). AreSent alike p graph degrees xs ss) (sym ev) (subst (λ (xs : List ℤ). AreSent alike p graph degrees values xs) (sym es) h))
 
 -- any edge tells
-any-edge : (p : Program) (graph : GraphData) (u d e f : ℕ) (v : Val) → IgnoresEdge p.send → sent_by p graph u v d e ≡ sent_by p graph u v d f
+pub any-edge : (p : Program) (graph : GraphData) (u d e f : ℕ) (v : Val) → IgnoresEdge p.send → sent_by p graph u v d e ≡ sent_by p graph u v d f
 any-edge p graph u d e f v h = h (send_words graph u v d e) (edge_value graph e) (edge_value graph f)
 
 module _ (p : Program) (graph : GraphData) (degrees : List ℕ) (values : List Val) where

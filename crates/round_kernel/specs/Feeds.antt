@@ -1,5 +1,5 @@
 -- What is kept of the arcs of a view and of the values of a round, so that a node's messages are found fast.
-use Rattle.std.specs.Prelude.{◌≡◌, ◌<◌, ⊤, ℕ, ℤ, Bool, List, length, IfSome}
+use Rattle.std.specs.Prelude.{◌≡◌, ◌<◌, ⊤, ℕ, ℤ, Bool, true, List, length, IfSome}
 use Rattle.graph_model.specs.declared.number.NodeNo.{NodeNo}
 use Rattle.graph_model.specs.GraphData.{GraphData}
 use Rattle.vertex_lang.specs.declared.arc.Arc.{Arc}
@@ -15,7 +15,7 @@ use Rattle.round_kernel.specs.Links.{tail_of, link_of}
 use Rattle.round_kernel.specs.Lives.{AreLive}
 use Rattle.round_kernel.specs.Codes.{number_at}
 use Rattle.round_kernel.specs.Numbers.{AreProper, IsStep}
-use Rattle.round_kernel.specs.Sides.{arcs_in}
+use Rattle.round_kernel.specs.Sides.{arcs_in, MayKeep}
 
 module _ (answer : Answer) (p : Program) (graph : GraphData) (all : List Arc) (edges : List Bool) (r : ℕ) where
   -- the numbers are those of the values of the round, and the message is the value and a property of the edge added
@@ -34,7 +34,7 @@ pub record AreLinks (graph : GraphData) (all : List Arc) (edges : List Bool) (co
   pub proper : AreProper graph column
 
 abbrev pub IsFed : Answer → Program → GraphData → List Arc → List Bool → ℕ → Feed → Type 0
-IsFed answer p graph all edges r (feeds.Messages live) = IfSome live (AreTails graph all edges)
+IsFed answer p graph all edges r (feeds.Messages live) = MayKeep true p graph × IfSome live (AreTails graph all edges)
 IsFed answer p graph all edges r (feeds.Steps column numbers live) = HasValues answer p graph all edges r column numbers.items × IfSome live (AreLinks graph all edges column)
 IsFed answer p graph all edges r feeds.Nothing = ⊤
 

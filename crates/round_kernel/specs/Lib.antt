@@ -16,6 +16,7 @@ pub mod Numbers
 pub mod Links
 pub mod Lives
 pub mod Telling
+pub mod Listing
 pub mod Flags
 pub mod Feeds
 pub mod Aiding

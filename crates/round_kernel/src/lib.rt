@@ -22,6 +22,7 @@ mod rows;
 mod sent;
 mod span;
 mod step;
+mod tails;
 mod tally;
 mod told;
 mod turned;

@@ -86,8 +86,8 @@ fn send_along(program: &Program, graph: &Graph, side: &Side<'_>, arc: Arc) -> Va
     )
 }
 
-// The message that is kept for a node.
-fn kept(sent: &[i64], node: usize) -> Val
+/// The message, or the value, that is kept for a node.
+pub(crate) fn kept(sent: &[i64], node: usize) -> Val
     requires { node < length sent.now }
     ensures { result ≡ number_at sent.now node }
 {
@@ -148,11 +148,21 @@ pub(crate) fn differ(
         &mut scratch.left,
         &mut scratch.right,
     )?;
+    Ok(are_unlike(scratch))
+}
+
+/// Whether the two lists are different multisets. Their order may change.
+pub(crate) fn are_unlike(scratch: &mut Scratch) -> bool
+    ensures { result ≡ not (are_one same_value scratch.old.left.items scratch.old.right.items) }
+{
+    if scratch.left.is_empty() && scratch.right.is_empty() {
+        return false;
+    }
     if told_apart(&scratch.left, &scratch.right) {
-        return Ok(true);
+        return true;
     }
     let same = are_one_multiset(&mut scratch.left, &mut scratch.right);
-    Ok(!same)
+    !same
 }
 
 // Whether two lists are seen to be different multisets by how many messages they have and by the least one, with no sort.
@@ -241,6 +251,19 @@ fn push_both(
     }
     let here = message(program, graph, left, arc);
     let there = message(program, graph, right, arc);
+    push_unlike(first, second, here, there)
+}
+
+/// Adds a message to each of two lists, but no message to both.
+pub(crate) fn push_unlike(
+    first: &mut Vec<Val>,
+    second: &mut Vec<Val>,
+    here: Val,
+    there: Val,
+) -> Result<(), NoMemory>
+    ensures { OnOk result ((all more : List Val) → AreLeft first.old.items second.old.items all more
+        → AreLeft first.new.items second.new.items (all ++ filter is_sent (here ∷ [])) (more ++ filter is_sent (there ∷ []))) }
+{
     if is_other(here, there) {
         push_sent(first, here)?;
         push_sent(second, there)?;

@@ -206,6 +206,16 @@ pub(crate) fn stepped(graph: &Graph, value: Val, edge: EdgeNo, column: u32) -> V
     }
 }
 
+/// A value, and that of a number added.
+pub(crate) fn with_step(value: Val, step: i64) -> Val
+    ensures { result ≡ added true value (value_in step) }
+{
+    match value {
+        Val::Nil => Val::Nil,
+        Val::Num(number) => stepped_by(number, step),
+    }
+}
+
 // A number, whichever it is, and the value of another one added.
 fn stepped_by(number: i64, step: i64) -> Val
     ensures { result ≡ added true (Num number) (value_in step) }

@@ -18,6 +18,7 @@ use crate::aids::Aids;
 use crate::history::Change;
 use crate::message::{Scratch, Side, differ, is_other};
 use crate::rows::Rows;
+use crate::tails::differ_if_listed;
 use crate::tally::{Kept, Tally};
 use crate::told::Movers;
 use graph_model::{Graph, NodeNo, Val};
@@ -289,7 +290,7 @@ fn is_touched<U: Updater>(
     touched: bool,
     aids: &Aids,
     scratch: &mut Scratch,
-    _updater: &U,
+    updater: &U,
 ) -> Result<bool, NoMemory>
     requires checked { IsChecked program.now graph.now }
     requires rows { AreRows graph.now rows.now }
@@ -307,6 +308,13 @@ fn is_touched<U: Updater>(
     }
     let turned = aids.told.turned_into(spot.node);
     let movers = Movers::Views(&aids.told.apart);
+    let listed = differ_if_listed(
+        program, graph, rows, &aids.feed, &sides.new, &sides.old, turned, movers, spot.node,
+        spot.round, scratch, updater,
+    )?;
+    if let Some(active) = listed {
+        return Ok(active);
+    }
     let row = rows.into(spot.node);
     if turned.is_empty() && movers.are_still(row) {
         return Ok(false);
@@ -360,7 +368,7 @@ fn is_other_input<U: Updater>(
     spot: Spot,
     aids: &Aids,
     scratch: &mut Scratch,
-    _updater: &U,
+    updater: &U,
 ) -> Result<bool, NoMemory>
     requires checked { IsChecked program.now graph.now }
     requires rows { AreRows graph.now rows.now }
@@ -379,10 +387,6 @@ fn is_other_input<U: Updater>(
         return Ok(true);
     }
     let movers = Movers::Rounds(&aids.told.moved, spot.round);
-    let row = rows.into(spot.node);
-    if movers.are_still(row) {
-        return Ok(false);
-    }
     let before = Side {
         edges: sides.new.edges,
         degrees: sides.new.degrees,
@@ -390,6 +394,27 @@ fn is_other_input<U: Updater>(
         alike: false,
         sent: &[],
     };
+    let listed = differ_if_listed(
+        program,
+        graph,
+        rows,
+        &aids.feed,
+        &sides.new,
+        &before,
+        &[],
+        movers,
+        spot.node,
+        spot.round,
+        scratch,
+        updater,
+    )?;
+    if let Some(marked) = listed {
+        return Ok(marked);
+    }
+    let row = rows.into(spot.node);
+    if movers.are_still(row) {
+        return Ok(false);
+    }
     let marked = differ(
         program,
         graph,

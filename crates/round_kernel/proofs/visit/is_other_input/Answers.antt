@@ -1,11 +1,14 @@
 use Rattle.std.proofs.Common.{◌≡◌, ◌<◌, ◌-◌, suc, false, sym, subst, refl, ℕ, List, length, get_or, arith}
-use Rattle.std.specs.Prelude.{All, ◌==◌}
+use Rattle.std.specs.Prelude.{All, ◌==◌, not}
 use Rattle.std.proofs.lemmas.List.Elements.{All-filter, All-weaker}
 use Rattle.vertex_lang.specs.declared.arc.Arc.{Arc}
 use Rattle.vertex_lang.specs.Arcs.{IsArc}
 use Rattle.lone_work.specs.Inputs.{got_values}
-use Rattle.round_kernel.specs.Sides.{arcs_in, all_brought}
-use Rattle.round_kernel.proofs.Brought.{brought-row}
+use Rattle.vertex_lang.specs.Lone.{same_value}
+use Rattle.multisets.specs.Multisets.{are_one}
+use Rattle.round_kernel.specs.Sides.{arcs_in, all_brought, row_of}
+use Rattle.round_kernel.proofs.Brought.{brought-is, brought-row}
+use Rattle.round_kernel.proofs.Listed.{some-is}
 use Rattle.round_kernel.proofs.Visits.{marked-first, marked-own, marked-got}
 use Rattle.round_kernel.proofs.Stillness.{itself, same-rounds}
 use Rattle.round_kernel.proofs.visit.is_other_input.Goals as goal
@@ -18,6 +21,26 @@ returns-then-is_other g c =
     let r = c.args.spot.round in
     let at : r ≡ suc (r - 1) = omega arith in
     marked-own g.U.Updater.answer c.args.program.now c.args.graph.now (arcs_in c.args.rows.now.by_head c.args.sides.now.new.edges.now) c.args.spot.node.0 r (r - 1) at c.args.sides.now.new.values.now c.args.sides.now.before.now c.is_other.result c.requires.new.values_are c.requires.before.values_are c.is_other.ensures c.if-is_other.true
+
+pub returns-in-Some : goal.returns-in-Some
+returns-in-Some g c =
+    let answer = g.U.Updater.answer in
+    let p = c.args.program.now in
+    let graph = c.args.graph.now in
+    let all = c.args.rows.now.by_head in
+    let new = c.args.sides.now.new in
+    let before = c.args.sides.now.before.now in
+    let v = c.args.spot.node.0 in
+    let r = c.args.spot.round in
+    let at : r ≡ suc (r - 1) = omega arith in
+    let ms = all_brought p graph new.edges.now new.degrees.now new.values.now (row_of all v) in
+    let ns = all_brought p graph new.edges.now new.degrees.now before (row_of all v) in
+    marked-got answer p graph (arcs_in all new.edges.now) v r (r - 1) at new.values.now before ms ns
+    c.is_other.result c.in-Some.marked c.requires.new.values_are c.requires.before.values_are
+    (brought-is answer p graph all new.edges.now new.degrees.now new.values.now r c.requires.new v c.requires.rows.arcs)
+    (brought-is answer p graph all new.edges.now new.degrees.now before (r - 1) c.requires.before v c.requires.rows.arcs)
+    c.is_other.ensures c.if-is_other.false
+    (some-is c.in_ok-listed.listed c.in-Some.marked (not (are_one same_value ms ns)) c.in-Some.is c.in_ok-listed.ensures)
 
 pub are_still-requires : goal.are_still-requires
 are_still-requires g c =

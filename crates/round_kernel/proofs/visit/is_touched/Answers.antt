@@ -1,13 +1,16 @@
 use Rattle.std.proofs.Common.{◌≡◌, ◌∙◌, ◌<◌, false, refl, sym, ap, subst, Bool, List, length, get_or, arith}
-use Rattle.std.specs.Prelude.{All, ◌==◌, ◌||◌}
+use Rattle.std.specs.Prelude.{All, ◌==◌, ◌||◌, not}
 use Rattle.std.proofs.lemmas.Bool.{eqb-true}
 use Rattle.std.proofs.lemmas.List.{nil_from_length}
 use Rattle.std.proofs.lemmas.List.Elements.{All-filter, All-weaker}
 use Rattle.vertex_lang.specs.declared.arc.Arc.{Arc}
 use Rattle.vertex_lang.specs.Arcs.{IsArc}
 use Rattle.lone_work.specs.Inputs.{got_values}
-use Rattle.round_kernel.specs.Sides.{arcs_in, all_brought}
-use Rattle.round_kernel.proofs.Brought.{brought-row}
+use Rattle.vertex_lang.specs.Lone.{same_value}
+use Rattle.multisets.specs.Multisets.{are_one}
+use Rattle.round_kernel.specs.Sides.{arcs_in, all_brought, row_of}
+use Rattle.round_kernel.proofs.Brought.{brought-is, brought-row}
+use Rattle.round_kernel.proofs.Listed.{some-is}
 use Rattle.round_kernel.proofs.Visits.{touched-yes, touched-test}
 use Rattle.round_kernel.proofs.Feeding.{sent-under}
 use Rattle.round_kernel.proofs.Stillness.{itself, or-first, same-views}
@@ -16,6 +19,39 @@ use Rattle.round_kernel.proofs.visit.is_touched.Goals as goal
 
 pub returns-then-either : goal.returns-then-either
 returns-then-either g c = touched-yes g.U.Updater.answer c.args.program.now c.args.graph.now c.args.rows.now.by_head c.args.sides.now.old.edges.now c.args.sides.now.new.edges.now c.args.spot.node.0 c.args.spot.round c.args.spot.first c.args.touched c.requires.touched (sym c.either.ensures ∙ c.if-either.true)
+
+pub differ_if_listed-requires-clause-still : goal.differ_if_listed-requires-clause-still
+differ_if_listed-requires-clause-still g c = λ u e low apart.
+    let one : c.args.spot.first ≡ false = or-first c.args.spot.first c.args.touched (sym c.either.ensures ∙ c.if-either.false) in
+    let new = c.args.sides.now.new in
+    let old = c.args.sides.now.old in
+    sent-under g.U.Updater.answer c.args.program.now c.args.graph.now c.args.rows.now.by_head new.edges.now new.degrees.now new.values.now c.args.spot.round c.requires.new u e low
+    ∙ c.requires.aided.told.apart one u e low (ap (λ (bs : List Bool). get_or bs u false) (sym c.deref.ensures.value) ∙ apart)
+    ∙ sym (sent-under g.U.Updater.answer c.args.program.now c.args.graph.now c.args.rows.now.by_head old.edges.now old.degrees.now old.values.now c.args.spot.round (c.requires.old one) u e low)
+
+pub differ_if_listed-requires-clause-turned : goal.differ_if_listed-requires-clause-turned
+differ_if_listed-requires-clause-turned g c =
+    let one : c.args.spot.first ≡ false = or-first c.args.spot.first c.args.touched (sym c.either.ensures ∙ c.if-either.false) in
+    turned-into c.args.graph.now c.args.rows.now.by_head c.args.spot.first c.args.sides.now.old.edges.now c.args.sides.now.new.edges.now c.args.aids.now.told.turned c.requires.aided.told.turned one c.args.spot.node.0
+    (row_of c.args.rows.now.by_head c.args.spot.node.0) c.turned_into-turned.result.now refl c.turned_into-turned.ensures
+
+pub returns-in-Some : goal.returns-in-Some
+returns-in-Some g c =
+    let answer = g.U.Updater.answer in
+    let p = c.args.program.now in
+    let graph = c.args.graph.now in
+    let all = c.args.rows.now.by_head in
+    let new = c.args.sides.now.new in
+    let old = c.args.sides.now.old in
+    let v = c.args.spot.node.0 in
+    let r = c.args.spot.round in
+    let ms = all_brought p graph new.edges.now new.degrees.now new.values.now (row_of all v) in
+    let ns = all_brought p graph old.edges.now old.degrees.now old.values.now (row_of all v) in
+    touched-test answer p graph all old.edges.now new.edges.now v r c.args.spot.first c.args.touched c.in-Some.active ms ns
+    c.requires.node c.requires.touched (sym c.either.ensures ∙ c.if-either.false)
+    (λ e. brought-is answer p graph all new.edges.now new.degrees.now new.values.now r c.requires.new v c.requires.rows.arcs)
+    (λ e. brought-is answer p graph all old.edges.now old.degrees.now old.values.now r (c.requires.old e) v c.requires.rows.arcs)
+    (some-is c.in_ok-listed.listed c.in-Some.active (not (are_one same_value ms ns)) c.in-Some.is c.in_ok-listed.ensures)
 
 pub are_still-requires : goal.are_still-requires
 are_still-requires g c =
