@@ -12,7 +12,6 @@ use crate::kept::Kept;
 use graph_model::Graph;
 use gvdl_check::{CollectionPlan, Plan, RunPlan, Step, ViewPlan};
 use std::alloc::Global;
-use std::slice;
 use surge_outside::{List, NoMemory};
 use vertex_lang::Updater;
 use view_engine::Engine;
@@ -49,19 +48,26 @@ fn empty_matrices(alloc: Global, graph: &Graph, count: usize) -> Result<Vec<Matr
 }
 
 // Adds these views to a matrix. No predicate is evaluated again.
-fn add_views(matrix: &mut Matrix, graph: &Graph, views: &[ViewPlan]) -> Result<(), NoMemory>
+fn add_views(
+    alloc: Global,
+    matrix: &mut Matrix,
+    graph: &Graph,
+    views: &[ViewPlan],
+) -> Result<(), NoMemory>
     requires graph { length graph.now.ends ≡ length matrix.old.live }
     requires few { length matrix.old.columns + length views.now ≤ 1_024 }
     ensures { OnOk result (matrix.new ≡ with_views matrix.old graph.now (rules_of views.now)) }
 {
+    let mut rules = Vec::with_capacity(alloc, views.len())?;
     for view in views {
-        matrix.add_views(graph, slice::from_ref(&view.rule))?;
+        rules.push(&view.rule)?;
     }
-    Ok(())
+    matrix.add_rules(graph, rules.as_slice())
 }
 
 // Adds the next views of a collection to its matrix.
 fn grow_matrix(
+    alloc: Global,
     matrix: &mut Matrix,
     graph: &Graph,
     collection: &CollectionPlan,
@@ -75,7 +81,7 @@ fn grow_matrix(
     let views = collection.views.as_slice();
     let before = matrix.views() as usize;
     let more = (views.len() - before).min(count as usize);
-    add_views(matrix, graph, &views[before..before + more])
+    add_views(alloc, matrix, graph, &views[before..before + more])
 }
 
 impl<'g> State<'g> {
@@ -102,6 +108,7 @@ impl<'g> State<'g> {
     /// Gives a collection more views, as a statement asks for. The kept runs stay as they were.
     pub(crate) fn grow<U: Updater>(
         &mut self,
+        alloc: Global,
         graph: &Graph,
         plan: &Plan,
         n: usize,
@@ -118,7 +125,7 @@ impl<'g> State<'g> {
         match plan.collections.as_slice().get(place as usize) {
             Some(collection) => {
                 let matrix = &mut self.made[place as usize];
-                grow_matrix(matrix, graph, collection, count)
+                grow_matrix(alloc, matrix, graph, collection, count)
             }
             None => Ok(()),
         }

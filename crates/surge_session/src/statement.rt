@@ -244,7 +244,7 @@ fn execute_append<'g, O: Sink, U: Updater>(
 {
     let collection = &plan.collections.as_slice()[place as usize];
     let first = state.views(graph, plan, n, place);
-    match state.grow::<U>(graph, plan, n, place, count) {
+    match state.grow::<U>(alloc, graph, plan, n, place, count) {
         Ok(()) => append_all(
             alloc,
             plan,
@@ -325,6 +325,7 @@ fn show_work<O: Sink, U: Updater>(
 
 // Adds the views with which a collection is made.
 fn execute_make<U: Updater>(
+    alloc: Global,
     plan: &Plan,
     n: usize,
     place: u32,
@@ -338,7 +339,7 @@ fn execute_make<U: Updater>(
     ensures at { OnOk result (IsAt U.answer graph.now plan.now (n + 1) state.new.made.items state.new.kept.items) }
     ensures memory { OnErr result (result ≡ Err Trouble.NoMemory) }
 {
-    match state.grow::<U>(graph, plan, n, place, count) {
+    match state.grow::<U>(alloc, graph, plan, n, place, count) {
         Ok(()) => Ok(()),
         Err(NoMemory) => Err(Trouble::NoMemory),
     }
@@ -369,7 +370,7 @@ pub(crate) fn execute<'g, O: Sink, U: Updater>(
 {
     match step {
         Step::Make { collection, count } => {
-            execute_make::<U>(plan, n, collection, count, state, graph)
+            execute_make::<U>(alloc, plan, n, collection, count, state, graph)
         }
         Step::Run { run } => execute_run(
             alloc, plan, n, run, state, graph, form, turns, out, updater,

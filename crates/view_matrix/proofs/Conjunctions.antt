@@ -1,9 +1,9 @@
 -- Conjunctions of bounds.
-use Rattle.std.proofs.Common.{◌≡◌, ◌∙◌, ◌+◌, ◌<◌, ◌≤◌, ℕ, Bool, true, false, ◌&&◌, List, [], ◌∷◌, ◌++◌, length, get_or, map, take, All, Some, Option, refl, sym, ap, ap₂, subst, arith}
+use Rattle.std.proofs.Common.{◌≡◌, ◌∙◌, ◌+◌, ◌<◌, ℕ, Bool, true, false, ◌&&◌, List, [], ◌∷◌, ◌++◌, length, get_or, map, take, Some, refl, sym, ap, ap₂, subst, arith}
 use Rattle.std.specs.List.{list_all}
 use Rattle.std.proofs.lemmas.List.{take_more}
 use Rattle.std.proofs.lemmas.List.Folds.{list_all-append}
-use Rattle.std.proofs.lemmas.List.Elements.{All-append, All-push, All-pop}
+use Rattle.std.proofs.lemmas.List.Elements.{All-push, All-pop}
 use Rattle.graph_model.specs.GraphData.{GraphData, Cell}
 use Rattle.edge_predicates.specs.declared.pred.Pred.{Pred}
 use Rattle.edge_predicates.specs.declared.pred.Pred.TheVariants as pred

@@ -1,10 +1,9 @@
 -- Lists of truth values, word by word.
-use Rattle.std.proofs.Common.{◌≡◌, ◌∙◌, ◌+◌, ◌*◌, ◌/◌, ◌%◌, ◌<◌, ◌≤◌, ◌⊎◌, inl, inr, ℕ, Bool, false, ◌&&◌, List, length, map, get_or, bit_and, sym, ap, arith, ◌-◌}
+use Rattle.std.proofs.Common.{◌≡◌, ◌∙◌, ◌+◌, ◌*◌, ◌<◌, ◌≤◌, ◌⊎◌, inl, inr, ℕ, Bool, false, List, length, map, sym, ap, arith, ◌-◌}
 use Rattle.std.specs.List.{range_with_len}
 use Rattle.std.proofs.lemmas.Bool.{cases_lt}
 use Rattle.std.proofs.lemmas.List.FromFn.{fill_by_all}
-use Rattle.view_matrix.specs.Columns.{at, is_set, word_of, AreWords}
-use Rattle.view_matrix.proofs.Passes.{both}
+use Rattle.view_matrix.specs.Columns.{at, is_set, word_of}
 use Rattle.view_matrix.proofs.Words.{set_word}
 
 -- the first so many are what the test says

@@ -8,4 +8,6 @@ pub mod MatrixBits
 pub mod BoundLaws
 pub mod Conjunctions
 pub mod Scans
+pub mod NumberWords
+pub mod ScannedWords
 pub mod Flags

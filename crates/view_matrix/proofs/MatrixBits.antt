@@ -1,10 +1,9 @@
 -- The edges of a matrix, by its columns.
-use Rattle.std.proofs.Common.{◌≡◌, ◌∙◌, ◌+◌, ◌<◌, ◌≤◌, ℕ, zero, suc, Bool, true, false, cond, not, ◌&&◌, List, [], ◌∷◌, ◌++◌, length, map, filter, count_by, get_or, All, Some, None, Option, refl, sym, ap, ap₂, arith}
+use Rattle.std.proofs.Common.{◌≡◌, ◌∙◌, ◌≤◌, ℕ, zero, suc, Bool, true, false, cond, ◌&&◌, List, [], ◌∷◌, length, map, filter, count_by, All, Some, None, Option, refl, sym, ap, ap₂, arith}
 use mathlib.Core.Path.{fun_ext}
 use Rattle.std.specs.List.{range_with_len}
 use Rattle.std.proofs.lemmas.Simd.{map-map}
 use Rattle.std.proofs.lemmas.List.{length-map}
-use Rattle.std.proofs.lemmas.List.Elements.{All-append}
 use Rattle.std.proofs.lemmas.List.Sums.{length-filter, count_by-le-length}
 use Rattle.std.proofs.lemmas.List.FromFn.{length-map-range_with_len}
 use Rattle.graph_model.specs.declared.number.EdgeNo.{EdgeNo}
@@ -13,7 +12,7 @@ use Rattle.edge_predicates.specs.declared.pred.ViewRule.{ViewRule}
 use Rattle.edge_predicates.specs.Truth.{rule_truth}
 use Rattle.edge_predicates.specs.ViewEdges.{edge}
 use Rattle.view_matrix.specs.Columns.{at}
-use Rattle.view_matrix.specs.Matrices.{MatrixData, all_edges, apart, bit_of, column_bit, column_of, differ, differences_of, distance_of, edges_in, live_of, rule_bit_of, rule_column, rule_columns, size_of}
+use Rattle.view_matrix.specs.Matrices.{MatrixData, all_edges, apart, bit_of, column_bit, column_of, differ, differences_of, distance_of, edges_in, rule_columns, size_of}
 use Rattle.view_matrix.proofs.Passes.{made_same}
 
 -- a test of edges by their numbers

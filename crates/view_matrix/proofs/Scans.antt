@@ -1,5 +1,5 @@
 -- Words and columns of the edges that meet bounds.
-use Rattle.std.proofs.Common.{◌≡◌, ◌≢◌, ◌∙◌, ◌+◌, ◌-◌, ◌*◌, ◌/◌, ◌%◌, ◌^◌, ◌<◌, ◌≤◌, ◌==◌, ◌⊎◌, inl, inr, ℕ, zero, suc, Bool, true, false, cond, ◌&&◌, ◌||◌, if◌then◌else◌, List, [], ◌∷◌, ◌++◌, length, map, get_or, take, refl, sym, ap, ap₂, subst, arith, bit_and, bit_or, min}
+use Rattle.std.proofs.Common.{◌≡◌, ◌≢◌, ◌∙◌, ◌+◌, ◌-◌, ◌*◌, ◌/◌, ◌%◌, ◌^◌, ◌<◌, ◌≤◌, ◌==◌, ◌⊎◌, inl, inr, ℕ, zero, suc, Bool, true, false, ◌&&◌, ◌||◌, if◌then◌else◌, List, [], ◌∷◌, ◌++◌, length, map, get_or, take, refl, sym, ap, ap₂, arith, bit_and, bit_or, min}
 use Rattle.std.specs.Prelude.{nat_lt}
 use mir.Val.{bool_byte}
 use Rattle.std.specs.List.{range_with_len, list_all}
@@ -13,6 +13,7 @@ use Rattle.std.proofs.lemmas.List.{take_more, get_or_past, get_or_push}
 use Rattle.std.proofs.Math.ListN.{get_or-append}
 use Rattle.std.proofs.lemmas.List.Folds.{list_all-append}
 use Rattle.view_matrix.specs.Columns.{bit_in, is_set}
+use Rattle.view_matrix.specs.Scans.{bits_up_to}
 use Rattle.view_matrix.proofs.Bits.{with_set}
 use Rattle.view_matrix.proofs.Words.{set_and}
 
@@ -105,9 +106,6 @@ next_bounds {X} p xs k d word more i count lt so_far one =
     ∙ ap (λ (b : Bool). list_all p (take k xs) && b) (sym (no_bounds (p (get_or xs k d))))))
 
 -- ---- a column, word by word
-
-abbrev pub bits_up_to : (ℕ → Bool) → ℕ → ℕ → List ℕ → Type 0
-bits_up_to p len k words = (e : ℕ) → e < 64 * k → bit_in words e ≡ (nat_lt e len && p e)
 
 module _ (p : ℕ → Bool) (len k count word : ℕ) (words : List ℕ) (all : length words ≡ k) (room : 64 * k ≤ len) (few : count ≡ min (len - 64 * k) 64)
     (of_word : (i : ℕ) → is_set word i ≡ (nat_lt i count && p (64 * k + i))) where

@@ -1,6 +1,5 @@
 -- Laws of the edges in which two columns differ.
 use Rattle.std.specs.Prelude.{◌≡◌, ◌≢◌, ◌⊎◌, ℕ, ◌+◌, ◌<◌, ◌==◌, zero, suc, Bool, true, false, not, ◌||◌, List, [], ◌∷◌, length, filter, cond, get_or, All, Option, refl}
-use Rattle.std.specs.List.{list_any}
 use Rattle.std.proofs.Common.{sym, ap, ◌∙◌, arith, inl, inr}
 use Rattle.std.proofs.lemmas.Bool.Decides.{eqb_tells}
 use Rattle.graph_model.specs.declared.number.EdgeNo.{EdgeNo}

@@ -1,5 +1,5 @@
 -- What follows from the definitions, each law as one statement, and proofs of them that the rooms above can cite.
-use Rattle.std.specs.Prelude.{◌≡◌, ℕ, Bool, true, List, length, All, slice_get, Option, Some}
+use Rattle.std.specs.Prelude.{◌≡◌, ℕ, true, List, length, All, slice_get, Option, Some}
 use Rattle.graph_model.specs.GraphData.{GraphData}
 use Rattle.edge_predicates.specs.declared.pred.ViewRule.{ViewRule}
 use Rattle.edge_predicates.specs.ViewEdges.{view_edges}

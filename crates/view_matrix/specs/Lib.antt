@@ -5,5 +5,7 @@ pub mod Laws
 pub mod Columns
 pub mod Packed
 pub mod Bounds
+pub mod Numbers
+pub mod Scans
 pub mod SetBitsInside
 pub mod MatrixInside

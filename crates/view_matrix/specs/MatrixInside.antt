@@ -1,5 +1,5 @@
 -- Inside: what a matrix keeps.
-use Rattle.std.specs.Prelude.{◌≡◌, ◌≤◌, List, Bool, length, All}
+use Rattle.std.specs.Prelude.{◌≡◌, ◌≤◌, length, All}
 use Rattle.view_matrix.specs.declared.matrix.Matrix.TheInside.{Inside}
 use Rattle.view_matrix.specs.Matrices.{MatrixData}
 

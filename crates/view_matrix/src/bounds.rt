@@ -3,12 +3,11 @@
 ghost use Rattle.std.specs.Prelude.{◌≡◌, ◌<◌, ℕ, ℤ, ◌&&◌, IfSome};
 ghost use Rattle.std.specs.declared.cmp.Ordering.{Ordering};
 ghost use Rattle.std.specs.Ordering.{int_cmp, ordering_reverse};
-ghost use Rattle.graph_model.specs.GraphData.{GraphData, Cell, cell_of};
+ghost use Rattle.graph_model.specs.GraphData.{GraphData, Cell};
 ghost use Rattle.edge_predicates.specs.Truth.{agrees, cells_compare, read_at};
 ghost use Rattle.view_matrix.specs.Bounds.{admits, meets, meets_at};
 
 use edge_predicates::{Cmp, Place};
-use graph_model::CellRef;
 
 /// Bounds of a column of the edges: the number in it is from `low` to `high`, or, where they are not `inside`, it is a
 /// number that is not. The least and the greatest `i64` are no bounds.
@@ -21,8 +20,8 @@ pub(crate) struct Bounds {
 }
 
 impl Bounds {
-    /// Whether a number lies in the bounds.
-    fn admits(self, number: i64) -> bool
+    /// Whether a number lies in them.
+    pub(crate) fn admits(self, number: i64) -> bool
         ensures { result ≡ admits self number }
     {
         let lies_within = (self.low <= number) & (number <= self.high);
@@ -30,16 +29,6 @@ impl Bounds {
             lies_within
         } else {
             !lies_within
-        }
-    }
-
-    /// Whether a cell is a number that lies in them.
-    pub(crate) fn meets(self, cell: CellRef<'_>) -> bool
-        ensures { result ≡ meets self (cell_of cell.entry) }
-    {
-        match cell {
-            CellRef::Int(number) => self.admits(number),
-            _ => false,
         }
     }
 

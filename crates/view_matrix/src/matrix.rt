@@ -8,7 +8,7 @@ use crate::column::Column;
 use crate::counted::{count_apart, count_both};
 use crate::flagged::flags_both;
 use crate::listed::{list_apart, list_both, list_new};
-use crate::rules::{column_of, rule_columns};
+use crate::rules::{column_of, references, rule_columns};
 use edge_predicates::ViewRule;
 use graph_model::{EdgeNo, Graph, ViewNo};
 use std::alloc::Global;
@@ -53,7 +53,8 @@ impl Matrix {
     {
         let _edges = graph.edge_count();
         let live = column_of(alloc, live.as_slice())?;
-        let columns = rule_columns(alloc, graph, views)?;
+        let rules = references(alloc, views)?;
+        let columns = rule_columns(alloc, graph, rules.as_slice())?;
         Ok(Matrix {
             alloc,
             live,
@@ -69,7 +70,20 @@ impl Matrix {
         ensures ok { OnOk result (self.new ≡ with_views self.old graph.now views.now) }
         ensures err { OnErr result (self.new ≡ self.old) }
     {
-        let mut columns = rule_columns(self.alloc, graph, views)?;
+        let rules = references(self.alloc, views)?;
+        self.add_rules(graph, rules.as_slice())
+    }
+
+    /// Adds the views of these rules over the same graph, in their order, behind those that are there, at most 1,024 in
+    /// all, by one pass over the edges. Each rule is told once for each edge. The one error is want of memory, and it
+    /// leaves the matrix as it was.
+    pub fn add_rules(&mut self, graph: &Graph, rules: &[&ViewRule]) -> Result<(), NoMemory>
+        requires graph { length graph.now.ends ≡ length self.old.live }
+        requires few { length self.old.columns + length rules.now ≤ 1_024 }
+        ensures ok { OnOk result (self.new ≡ with_views self.old graph.now (map (λ r. r.now) rules.now)) }
+        ensures err { OnErr result (self.new ≡ self.old) }
+    {
+        let mut columns = rule_columns(self.alloc, graph, rules)?;
         self.columns.append(&mut columns)?;
         Ok(())
     }

@@ -1,13 +1,12 @@
 //! The columns of a matrix, as they are made.
 
-ghost use Rattle.std.specs.Prelude.{◌≡◌, ◌≤◌, length, IfOk};
-ghost use Rattle.view_matrix.specs.Matrices.{rule_column, rule_columns};
+ghost use Rattle.std.specs.Prelude.{◌≡◌, ◌≤◌, length, map, IfOk};
+ghost use Rattle.view_matrix.specs.Matrices.{rule_columns};
 
 use crate::column::Column;
-use crate::conjunction::bounds_of_rule;
-use crate::scan::meeting_column;
-use edge_predicates::{ViewRule, rule_holds};
-use graph_model::{EdgeNo, Graph};
+use crate::scan::{Scan, scanned_columns};
+use edge_predicates::ViewRule;
+use graph_model::Graph;
 use std::alloc::Global;
 use surge_outside::NoMemory;
 
@@ -25,41 +24,31 @@ pub(crate) fn column_of(alloc: Global, bits: &[bool]) -> Result<Column, NoMemory
     Ok(column)
 }
 
-// The column of any rule, which is evaluated once for each edge.
-fn evaluated_column(alloc: Global, graph: &Graph, rule: &ViewRule) -> Result<Column, NoMemory>
-    ensures { IfOk result (λ column. column ≡ rule_column graph.now rule.now) }
-{
-    let mut column = Column::new(alloc, graph.edge_count())?;
-    for edge in 0..graph.edge_count() {
-        if rule_holds(rule, graph, EdgeNo(edge)) {
-            column.set(edge, true);
-        }
-    }
-    Ok(column)
-}
-
-/// The column of a rule. A window, and each other conjunction of comparisons of columns of the edges with numbers, is
-/// told from the columns alone.
-fn rule_column(alloc: Global, graph: &Graph, rule: &ViewRule) -> Result<Column, NoMemory>
-    ensures { IfOk result (λ column. column ≡ rule_column graph.now rule.now) }
-{
-    match bounds_of_rule(alloc, graph.edge_columns().len(), rule)? {
-        Some(all) => meeting_column(alloc, graph, all.as_slice()),
-        None => evaluated_column(alloc, graph, rule),
-    }
-}
-
 /// The columns of these rules.
 pub(crate) fn rule_columns(
     alloc: Global,
     graph: &Graph,
-    rules: &[ViewRule],
+    rules: &[&ViewRule],
 ) -> Result<Vec<Column>, NoMemory>
-    ensures { IfOk result (λ columns. columns.items ≡ rule_columns graph.now rules.now) }
+    ensures { IfOk result (λ columns. columns.items ≡ rule_columns graph.now (map (λ r. r.now) rules.now)) }
 {
-    let mut columns = Vec::new(alloc);
+    let mut scans = Vec::with_capacity(alloc, rules.len())?;
     for rule in rules {
-        columns.push(rule_column(alloc, graph, rule)?)?;
+        scans.push(Scan::new(alloc, graph, *rule)?)?;
     }
-    Ok(columns)
+    scanned_columns(alloc, graph, scans.as_slice())
+}
+
+/// Each of these rules by reference.
+pub(crate) fn references<'r>(
+    alloc: Global,
+    rules: &'r [ViewRule],
+) -> Result<Vec<&'r ViewRule>, NoMemory>
+    ensures { IfOk result (λ all. map (λ r. r.now) all.items ≡ rules.now) }
+{
+    let mut all = Vec::with_capacity(alloc, rules.len())?;
+    for rule in rules {
+        all.push(rule)?;
+    }
+    Ok(all)
 }

@@ -1,5 +1,5 @@
 -- The number stands on the left.
-use Rattle.std.proofs.Common.{ℕ, ◌≡◌, sym, ap, subst, to_z, of_z, w64, rules, IfSome}
+use Rattle.std.proofs.Common.{◌≡◌, subst, w64, rules, IfSome}
 use Rattle.std.specs.Prelude.{ℤ}
 use Rattle.std.specs.Ordering.{int_cmp}
 use Rattle.std.proofs.Math.Facts.{to_z-of_z}

@@ -1,6 +1,5 @@
 -- One word more.
-use Rattle.std.proofs.Common.{◌≡◌, ◌∙◌, ◌+◌, ◌*◌, ◌≤◌, ◌&&◌, ℕ, Bool, List, length, count_by, get_or, bit_and, bit_xor, ap, sym, arith}
-use Rattle.std.specs.List.{range_with_len}
+use Rattle.std.proofs.Common.{◌∙◌, ◌+◌, ◌*◌, ◌&&◌, ℕ, Bool, length, get_or, bit_and, bit_xor, ap, arith}
 use Rattle.view_matrix.specs.Columns.{at}
 use Rattle.view_matrix.specs.Matrices.{differ}
 use Rattle.view_matrix.proofs.Passes.{apart_in, counted_more, counted_few, counted_all, none_behind}

@@ -1,4 +1,4 @@
-use Rattle.std.proofs.Common.{◌≡◌, ◌*◌, ◌&&◌, count_by, length}
+use Rattle.std.proofs.Common.{◌≡◌, ◌*◌, ◌&&◌, count_by}
 use Rattle.std.specs.List.{range_with_len}
 use Rattle.view_matrix.specs.Columns.{at}
 use Rattle.view_matrix.proofs.counted.count_both.Given as goal

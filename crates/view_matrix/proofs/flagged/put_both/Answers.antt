@@ -1,5 +1,5 @@
 -- One word more.
-use Rattle.std.proofs.Common.{◌≡◌, ◌∙◌, ◌+◌, ◌*◌, ◌≤◌, ◌<◌, ◌&&◌, ℕ, Bool, List, length, map, get_or, bit_and, ap, arith}
+use Rattle.std.proofs.Common.{◌∙◌, ◌*◌, ◌&&◌, ℕ, length, get_or, bit_and, arith}
 use Rattle.view_matrix.specs.Columns.{at}
 use Rattle.view_matrix.proofs.Passes.{both}
 use Rattle.view_matrix.proofs.Flags.{flags_more, all_flags}

@@ -1,8 +1,8 @@
 -- One word more.
-use Rattle.std.proofs.Common.{◌≡◌, ◌∙◌, ◌+◌, ◌*◌, ◌++◌, ◌&&◌, ◌≤◌, ℕ, Bool, List, length, map, filter, get_or, bit_and, bit_xor, ap, arith}
+use Rattle.std.proofs.Common.{◌∙◌, ◌*◌, ◌++◌, ◌&&◌, ℕ, Bool, List, length, map, get_or, bit_and, ap, arith}
 use Rattle.graph_model.specs.declared.number.EdgeNo.{EdgeNo}
 use Rattle.edge_predicates.specs.ViewEdges.{edge}
-use Rattle.view_matrix.specs.Columns.{at, is_set, set_in}
+use Rattle.view_matrix.specs.Columns.{at}
 use Rattle.view_matrix.proofs.Passes.{both, pushed_more, none_behind, signed}
 use Rattle.view_matrix.proofs.Ranges.{up_to}
 use Rattle.view_matrix.proofs.listed.list_new.Goals as goal

@@ -1,5 +1,5 @@
 -- One bit more.
-use Rattle.std.proofs.Common.{◌≡◌, ◌∙◌, ◌<◌, ◌≤◌, ℕ, Bool, List, length, ap, sym, arith}
+use Rattle.std.proofs.Common.{◌∙◌, Bool, List, length, ap, sym, arith}
 use Rattle.view_matrix.proofs.Filled.{filled_none, filled_all, filled_set, filled_not, length-filled}
 use Rattle.view_matrix.proofs.rules.column_of.Goals as goal
 use Rattle.view_matrix.proofs.rules.column_of.Goals.{then-bit, else-bit}

@@ -1,10 +1,21 @@
 -- One of the bounds more.
-use Rattle.std.proofs.Common.{◌+◌, pos, false}
+use Rattle.std.proofs.Common.{◌≡◌, ◌∙◌, ◌+◌, ◌&&◌, ℕ, pos, false, ap₂, get_or}
+use Rattle.std.specs.Prelude.{nat_lt}
+use Rattle.view_matrix.specs.declared.bounds.Bounds.{Bounds}
 use Rattle.view_matrix.specs.Bounds.{meets_at}
+use Rattle.view_matrix.specs.Columns.{is_set}
 use Rattle.view_matrix.proofs.Scans.{next_bounds}
 use Rattle.view_matrix.proofs.scan.meeting_all.Goals as goal
 
 pub loop-bounds-preserved : goal.loop-bounds-preserved
-loop-bounds-preserved c = λ i.
-    next_bounds (meets_at c.args.graph.now (c.args.first + i)) c.args.all.now c.loop-bounds.bounds-index (record { column = 0; low = pos 0; high = pos 0; inside = false }) c.loop-bounds.word c.meeting_word-word.result i c.args.count
-    c.loop-bounds-test.true (c.loop-bounds.invariant i) (c.meeting_word-word.ensures i)
+loop-bounds-preserved c =
+    let none : Bounds = record { column = 0; low = pos 0; high = pos 0; inside = false } in
+    let b : Bounds = get_or c.args.all.now c.loop-bounds.bounds-index none in
+    let more : (i : ℕ) → is_set c.meeting_word-word.result i ≡ (nat_lt i c.args.count && meets_at c.args.graph.now (c.args.first + i) b) =
+    λ i. c.meeting_word-word.ensures i ∙ ap₂ (λ (count first : ℕ). nat_lt i count && meets_at c.args.graph.now (first + i) b) c.turn_to.ensures.place.count_is c.turn_to.ensures.place.first_is in
+    record {
+      numbers = c.turn_to.ensures.are;
+      word = λ i.
+          next_bounds (meets_at c.args.graph.now (c.args.first + i)) c.args.all.now c.loop-bounds.bounds-index none c.loop-bounds.word c.meeting_word-word.result i c.args.count
+          c.loop-bounds-test.true (c.loop-bounds.invariant.word i) (more i);
+    }

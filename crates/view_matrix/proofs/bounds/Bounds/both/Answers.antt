@@ -1,6 +1,5 @@
 -- Each bound is one of the two.
 use Rattle.std.proofs.Common.{◌≡◌, ◌∙◌, ap₂, refl, true, to_z, of_z, w64, rules}
-use Rattle.std.specs.Prelude.{ℤ}
 use Rattle.std.specs.Int.{int_max, int_min}
 use Rattle.std.proofs.Math.Facts.{to_z-of_z}
 use mir.Val.{SFits}

@@ -1,4 +1,4 @@
-use Rattle.std.proofs.Common.{◌≡◌, ◌∙◌, ◌<◌, ◌/◌, ◌%◌, ℕ, List, Bool, sym, ap, arith, length, get_or}
+use Rattle.std.proofs.Common.{◌∙◌, ◌<◌, ◌/◌, ◌%◌, ℕ, List, Bool, sym, ap, arith, length}
 use Rattle.std.proofs.lemmas.List.{get_or_default}
 use Rattle.view_matrix.specs.Columns.{at, is_set}
 use Rattle.view_matrix.proofs.Columns.{bits_len, at_within}

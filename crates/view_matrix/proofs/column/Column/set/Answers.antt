@@ -1,5 +1,5 @@
 -- One bit is changed, and no other.
-use Rattle.std.proofs.Common.{◌≡◌, ◌∙◌, ◌<◌, ◌/◌, ◌%◌, ◌==◌, if◌then◌else◌, ℕ, List, Bool, sym, ap, arith, length, set, get_or}
+use Rattle.std.proofs.Common.{◌≡◌, ◌∙◌, ◌<◌, ◌/◌, ◌%◌, ◌==◌, if◌then◌else◌, ℕ, List, Bool, ap, arith, length, set, get_or}
 use Rattle.std.proofs.Math.ListN.{length-set}
 use Rattle.std.proofs.lemmas.List.{get_or_default}
 use Rattle.view_matrix.specs.Columns.{is_set}

@@ -1,6 +1,6 @@
-use Rattle.std.proofs.Common.{◌∙◌, List, Bool, ℕ, sym, ap, subst}
+use Rattle.std.proofs.Common.{List, Bool, ℕ, sym, subst}
 use Rattle.view_matrix.specs.Columns.{AreWords}
-use Rattle.view_matrix.proofs.Columns.{bits, words_of}
+use Rattle.view_matrix.proofs.Columns.{words_of}
 use Rattle.view_matrix.proofs.column.Column.words.Goals as goal
 
 pub returns : goal.returns

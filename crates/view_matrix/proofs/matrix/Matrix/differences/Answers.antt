@@ -1,10 +1,10 @@
 -- From a view, and from the empty column.
-use Rattle.std.proofs.Common.{◌≡◌, ◌∙◌, ◌<◌, ◌≤◌, ℕ, List, Bool, Option, Some, None, [], length, get_or, ap, sym, subst, arith}
-use Rattle.std.proofs.lemmas.List.{get_or_default, length-map}
+use Rattle.std.proofs.Common.{◌≡◌, ◌∙◌, List, Bool, Option, Some, None, [], length, ap, sym, subst, arith}
+use Rattle.std.proofs.lemmas.List.{get_or_default}
 use Rattle.std.proofs.lemmas.Result.{IfOk-weaker}
 use Rattle.graph_model.specs.declared.number.ViewNo.{ViewNo}
 use Rattle.graph_model.specs.declared.number.EdgeNo.{EdgeNo}
-use Rattle.view_matrix.specs.Matrices.{MatrixData, apart, bit_of, column_bit, column_of, differ, differences_of, place_of, IsColumn}
+use Rattle.view_matrix.specs.Matrices.{MatrixData, differences_of, place_of, IsColumn}
 use Rattle.view_matrix.specs.MatrixInside.{data_of}
 use Rattle.view_matrix.proofs.MatrixBits.{differences_are, differences_none, few_differences}
 use Rattle.view_matrix.proofs.matrix.Matrix.differences.Goals as goal

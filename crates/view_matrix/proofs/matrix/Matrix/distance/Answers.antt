@@ -1,10 +1,10 @@
 -- From a view, and from the empty column.
-use Rattle.std.proofs.Common.{◌≡◌, ◌∙◌, ◌<◌, ℕ, List, Bool, Option, Some, None, [], length, get_or, ap, sym, subst, arith}
+use Rattle.std.proofs.Common.{◌≡◌, ◌∙◌, Option, Some, None, [], length, ap, sym, subst, arith}
 use Rattle.std.proofs.lemmas.List.{get_or_default}
 use Rattle.graph_model.specs.declared.number.ViewNo.{ViewNo}
 use Rattle.graph_model.specs.declared.number.EdgeNo.{EdgeNo}
 use Rattle.view_matrix.specs.Laws.{distance_of-lists}
-use Rattle.view_matrix.specs.Matrices.{MatrixData, bit_of, column_bit, column_of, differ, distance_of, place_of, size_of, IsColumn}
+use Rattle.view_matrix.specs.Matrices.{MatrixData, bit_of, column_bit, differ, distance_of, place_of, IsColumn}
 use Rattle.view_matrix.specs.MatrixInside.{data_of}
 use Rattle.view_matrix.proofs.MatrixBits.{size_is, distance_is, few_kept}
 use Rattle.view_matrix.proofs.matrix.Matrix.distance.Goals as goal

@@ -1,8 +1,8 @@
-use Rattle.std.proofs.Common.{◌≡◌, ◌∙◌, ◌<◌, ◌≤◌, ℕ, List, Bool, [], length, get_or, ap, arith}
+use Rattle.std.proofs.Common.{◌≡◌, ◌∙◌, ◌<◌, ◌≤◌, List, [], length, ap, arith}
 use Rattle.std.proofs.lemmas.List.{get_or_default}
 use Rattle.std.proofs.lemmas.Result.{IfOk-weaker}
 use Rattle.graph_model.specs.declared.number.EdgeNo.{EdgeNo}
-use Rattle.view_matrix.specs.Matrices.{MatrixData, bit_of, column_of, edges_in}
+use Rattle.view_matrix.specs.Matrices.{MatrixData, bit_of, edges_in}
 use Rattle.view_matrix.specs.MatrixInside.{data_of}
 use Rattle.view_matrix.proofs.MatrixBits.{edges_are, few_kept}
 use Rattle.view_matrix.proofs.matrix.Matrix.edges.Goals as goal

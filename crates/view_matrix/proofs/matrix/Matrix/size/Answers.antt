@@ -1,6 +1,6 @@
-use Rattle.std.proofs.Common.{◌≡◌, ◌∙◌, ◌<◌, ℕ, List, Bool, [], length, get_or, ap, arith}
+use Rattle.std.proofs.Common.{◌∙◌, ◌<◌, [], length, ap, arith}
 use Rattle.std.proofs.lemmas.List.{get_or_default}
-use Rattle.view_matrix.specs.Matrices.{MatrixData, bit_of, column_of, size_of}
+use Rattle.view_matrix.specs.Matrices.{MatrixData, bit_of, size_of}
 use Rattle.view_matrix.proofs.MatrixBits.{size_is, few_kept}
 use Rattle.view_matrix.specs.MatrixInside.{data_of}
 use Rattle.view_matrix.proofs.matrix.Matrix.size.Goals as goal

@@ -1,5 +1,5 @@
 -- The lowest bit comes first, and the others behind it.
-use Rattle.std.proofs.Common.{◌≡◌, ◌∙◌, ◌<◌, ◌/◌, ◌^◌, ℕ, sym, arith, w64}
+use Rattle.std.proofs.Common.{◌∙◌, ◌<◌, ◌/◌, ◌^◌, sym, arith, w64}
 use Rattle.std.specs.Int.{trailing_zeros}
 use Rattle.std.proofs.Math.Nat.{div-le_self}
 use Rattle.view_matrix.proofs.Bits.{left_nothing, left_next, none_left, lowest_within}

@@ -1,5 +1,4 @@
-use Rattle.std.proofs.Common.{◌≡◌, ◌∙◌, ◌+◌, ◌^◌, ◌<◌, ℕ, List, map, sym, ap, arith}
-use mathlib.Core.Path.{fun_ext}
+use Rattle.std.proofs.Common.{arith}
 use Rattle.view_matrix.specs.Columns.{set_in}
 use Rattle.view_matrix.proofs.Bits.{from_none}
 use Rattle.view_matrix.proofs.Words.{none_above}

@@ -1,8 +1,0 @@
-use Rattle.std.proofs.Common.{◌≡◌, ◌+◌, ◌&&◌, ℕ}
-use Rattle.std.specs.Prelude.{nat_lt}
-use Rattle.view_matrix.specs.Bounds.{meets_at}
-use Rattle.view_matrix.specs.Columns.{is_set}
-use Rattle.view_matrix.proofs.scan.meeting_word.Given as goal
-
-abbrev pub invariant-loop-place : goal.invariant-loop-place
-invariant-loop-place l = (i : ℕ) → is_set l.word i ≡ (nat_lt i l.place && meets_at l.graph (l.first + i) l.bounds)
