@@ -1,21 +1,21 @@
 //! What an arc brings in a round of a view.
 
-ghost use Rattle.std.specs.Prelude.{MatchBool, ℕ, ◌≢◌, ◌≡◌, ◌<◌, ◌^◌, ◌++◌, not, false, List, length, get_or, fold, filter, All, Contains, IfOk, OnOk, IsTrue, IsFalse, [], ◌∷◌};
+ghost use Rattle.std.specs.Prelude.{MatchBool, true, if◌then◌else◌, ℕ, ◌≢◌, ◌≡◌, ◌<◌, ◌^◌, ◌++◌, not, false, List, length, get_or, fold, filter, All, Contains, IfOk, OnOk, IsTrue, IsFalse, [], ◌∷◌};
 ghost use Rattle.graph_model.specs.declared.value.Val.{Val};
 ghost use Rattle.vertex_lang.specs.Leaves.{IsChecked};
 ghost use Rattle.vertex_lang.specs.Arcs.{IsArc, is_sent};
 ghost use Rattle.vertex_lang.specs.Lone.{same_value};
 ghost use Rattle.multisets.specs.Multisets.{are_one};
 ghost use Rattle.graph_model.specs.declared.value.Val.TheVariants.{Nil};
-ghost use Rattle.vertex_lang.specs.Values.{lesser};
+ghost use Rattle.vertex_lang.specs.Values.{lesser, added};
 ghost use Rattle.vertex_lang.specs.Rounds.{value_at};
 ghost use Rattle.vertex_lang.specs.Expressions.{sent_by};
-ghost use Rattle.round_kernel.specs.Codes.{number_at};
+ghost use Rattle.round_kernel.specs.Codes.{number_at, value_in};
 ghost use Rattle.round_kernel.specs.Sides.{in_view, IsTurned, brings, all_brought, AreSent, IsSized, AreLeft};
 ghost use Rattle.round_kernel.specs.Telling.{InMovers, AreStill, moves};
 ghost use Rattle.round_kernel.specs.Tallies.{tally_of};
 
-use crate::numbers::{step_column, stepped};
+use crate::numbers::{step_column, step_of, stepped, with_step};
 use crate::sent::send;
 use crate::span::value_of;
 use crate::tally::{Tally, lesser_of};
@@ -249,9 +249,53 @@ fn push_both(
     if !may_differ(left, right, turned, movers, arc) {
         return Ok(());
     }
-    let here = message(program, graph, left, arc);
-    let there = message(program, graph, right, arc);
+    let (here, there) = messages(program, graph, left, right, arc);
     push_unlike(first, second, here, there)
+}
+
+// What an arc brings in two rounds. Where a property of its edge is added, that is looked up once for both.
+fn messages(
+    program: &Program,
+    graph: &Graph,
+    left: &Side<'_>,
+    right: &Side<'_>,
+    arc: Arc,
+) -> (Val, Val)
+    requires checked { IsChecked program.now graph.now }
+    requires arc { IsArc graph.now arc }
+    requires left { IsSized graph.now left.now.edges.now left.now.degrees.now left.now.values.now }
+    requires right { IsSized graph.now right.now.edges.now right.now.degrees.now right.now.values.now }
+    requires left_sent { AreSent left.now.alike program.now graph.now left.now.degrees.now left.now.values.now left.now.sent.now }
+    requires right_sent { AreSent right.now.alike program.now graph.now right.now.degrees.now right.now.values.now right.now.sent.now }
+    ensures left { result.0 ≡ brings program.now graph.now left.now.edges.now left.now.degrees.now left.now.values.now arc }
+    ensures right { result.1 ≡ brings program.now graph.now right.now.edges.now right.now.degrees.now right.now.values.now arc }
+{
+    if !left.alike {
+        if let Some(column) = step_column(program) {
+            let step = step_of(graph, arc.edge, column);
+            return (
+                stepped_over(left, arc, step),
+                stepped_over(right, arc, step),
+            );
+        }
+    }
+    (
+        message(program, graph, left, arc),
+        message(program, graph, right, arc),
+    )
+}
+
+// What an arc brings where that is the value of its tail and this number added: none where its edge is not in the view.
+fn stepped_over(side: &Side<'_>, arc: Arc, step: i64) -> Val
+    requires edge { arc.edge.0 < length side.now.edges.now }
+    requires tail { arc.tail.0 < length side.now.values.now }
+    ensures { result ≡ (if in_view side.now.edges.now arc then added true (value_at side.now.values.now arc.tail.0) (value_in step) else Nil) }
+{
+    if side.edges[arc.edge.0 as usize] {
+        with_step(side.values[arc.tail.0 as usize], step)
+    } else {
+        Val::Nil
+    }
 }
 
 /// Adds a message to each of two lists, but no message to both.

@@ -18,12 +18,12 @@ returns c =
     let p = c.args.program.now in
     let graph = c.args.graph.now in
     let r = c.args.right.now in
-    let here = c.message-here.result in
+    let here = c.messages-here.result.0 in
     let first = c.push_unlike.new.first.items in
     let second = c.push_unlike.new.second.items in
     let was = c.args.first.now.items in
     let had = c.args.second.now.items in
     let done = c.push_unlike.result in
-    subst (λ (m : Val). OnOk done ((all more : List Val) → AreLeft was had all more → AreLeft first second (all ++ filter is_sent (m ∷ [])) (more ++ filter is_sent (brings p graph r.edges.now r.degrees.now r.values.now c.args.arc ∷ [])))) c.message-here.ensures
-    (subst (λ (m : Val). OnOk done ((all more : List Val) → AreLeft was had all more → AreLeft first second (all ++ filter is_sent (here ∷ [])) (more ++ filter is_sent (m ∷ [])))) c.message-there.ensures
+    subst (λ (m : Val). OnOk done ((all more : List Val) → AreLeft was had all more → AreLeft first second (all ++ filter is_sent (m ∷ [])) (more ++ filter is_sent (brings p graph r.edges.now r.degrees.now r.values.now c.args.arc ∷ [])))) c.messages-here.ensures.left
+    (subst (λ (m : Val). OnOk done ((all more : List Val) → AreLeft was had all more → AreLeft first second (all ++ filter is_sent (here ∷ [])) (more ++ filter is_sent (m ∷ [])))) c.messages-here.ensures.right
     c.push_unlike.ensures)
