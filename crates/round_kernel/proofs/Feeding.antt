@@ -22,10 +22,11 @@ use Rattle.round_kernel.specs.declared.feed.Feed.TheVariants as feeds
 use Rattle.round_kernel.specs.declared.history.Change.{Change}
 use Rattle.round_kernel.specs.declared.live.Live.{Live}
 use Rattle.round_kernel.specs.declared.live.Link.{Link}
-use Rattle.round_kernel.specs.Feeds.{IsFed, HasValues, AreTails, AreLinks}
+use Rattle.round_kernel.specs.Feeds.{IsFed, HasValues}
 use Rattle.round_kernel.specs.Histories.{is_changed, HasChanges}
+use Rattle.round_kernel.specs.Listings.{AreTails, AreLinks}
 use Rattle.round_kernel.specs.Links.{tail_of, link_of, sent_over}
-use Rattle.round_kernel.specs.Lives.{AreLive, kept_for}
+use Rattle.round_kernel.specs.Lives.{AreLive, row_in}
 use Rattle.round_kernel.specs.Codes.{number_at, value_in, code_of}
 use Rattle.round_kernel.specs.Numbers.{sent_from, sent_in_view, sent_with, AreNumbers, AreRenewed, IsStep}
 use Rattle.round_kernel.specs.Sides.{in_view, arcs_in, row_of, AreSent, MayKeep, IsRound}
@@ -35,7 +36,7 @@ use Rattle.round_kernel.proofs.Gathered.{row-few}
 
 -- ---- a row
 
-module _ {A : Type 0} (pick : Arc → A) (all : List Arc) (edges : List Bool) (count : ℕ) (live : Live A) (is : AreLive pick all edges count live) (v : ℕ) (low : v < count) (row : List A) (e : row ≡ kept_for live.items.items live.ends.items v) where
+module _ {A : Type 0} (pick : Arc → A) (all : List Arc) (edges : List Bool) (count : ℕ) (live : Live A) (is : AreLive pick all edges count live) (v : ℕ) (low : v < count) (row : List A) (e : row ≡ row_in live.items.items live.places.items v) where
   pub row-is : row ≡ map pick (filter (in_view edges) (row_of all v))
   row-is = e ∙ is.row v low
 
@@ -106,7 +107,7 @@ module _ (answer : Answer) (p : Program) (graph : GraphData) (all : List Arc) (e
       ∙ gated (in_view edges) brought (row_of all v)
       ∙ chosen-both (in_view edges) (λ (a : Arc). a.head.0 == v) brought carries all (carries-number numbers has)
 
-  pub by-tails : (live : Live NodeNo) (numbers : List ℤ) (row : List NodeNo) → AreMessages numbers → AreTails graph all edges live → row ≡ kept_for live.items.items live.ends.items v
+  pub by-tails : (live : Live NodeNo) (numbers : List ℤ) (row : List NodeNo) → AreMessages numbers → AreTails graph all edges live → row ≡ row_in live.items.items live.places.items v
       → sent_from numbers row ≡ got_values answer p graph (arcs_in all edges) v r
   unfolding carries
   by-tails live numbers row has rows e =
@@ -132,7 +133,7 @@ module _ (answer : Answer) (p : Program) (graph : GraphData) (all : List Arc) (e
       ∙ gated (in_view edges) brought (row_of all v)
       ∙ chosen-both (in_view edges) (λ (a : Arc). a.head.0 == v) brought carries all (All-weaker (IsArc graph) (λ a. brought a ≡ carries a) (with-property column numbers has) all arcs)
 
-  pub by-links : (column : ℕ) (live : Live Link) (numbers : List ℤ) (row : List Link) → HasValues answer p graph all edges r column numbers → AreLinks graph all edges column live → row ≡ kept_for live.items.items live.ends.items v
+  pub by-links : (column : ℕ) (live : Live Link) (numbers : List ℤ) (row : List Link) → HasValues answer p graph all edges r column numbers → AreLinks graph all edges column live → row ≡ row_in live.items.items live.places.items v
       → sent_over numbers row ≡ got_values answer p graph (arcs_in all edges) v r
   unfolding carries
   by-links column live numbers row has links e =

@@ -31,6 +31,7 @@ pub mod Flagging
 pub mod Numbered
 pub mod Spanning
 pub mod Picked
+pub mod Renewing
 pub mod Proper
 pub mod Turning
 pub mod Listed

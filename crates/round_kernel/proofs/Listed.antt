@@ -18,7 +18,7 @@ use Rattle.round_kernel.specs.declared.live.Link.{Link}
 use Rattle.round_kernel.specs.declared.told.Movers.{Movers}
 use Rattle.round_kernel.specs.Codes.{number_at, value_in, code_of}
 use Rattle.round_kernel.specs.Links.{tail_of, link_of, brought_over, values_over, sent_by_tail, sent_by_tails}
-use Rattle.round_kernel.specs.Listing.{IsStillOver}
+use Rattle.round_kernel.specs.StillLinks.{IsStillOver}
 use Rattle.round_kernel.specs.Numbers.{AreProper, IsStep}
 use Rattle.round_kernel.specs.Sides.{in_view, brings, all_brought, IsTurned}
 use Rattle.round_kernel.specs.Telling.{AreStill}

@@ -1,6 +1,5 @@
 -- What is kept of the arcs of a view and of the values of a round, so that a node's messages are found fast.
 use Rattle.std.specs.Prelude.{◌≡◌, ◌<◌, ⊤, ℕ, ℤ, Bool, true, List, length, IfSome}
-use Rattle.graph_model.specs.declared.number.NodeNo.{NodeNo}
 use Rattle.graph_model.specs.GraphData.{GraphData}
 use Rattle.vertex_lang.specs.declared.arc.Arc.{Arc}
 use Rattle.vertex_lang.specs.declared.program.Program.{Program}
@@ -8,13 +7,10 @@ use Rattle.vertex_lang.specs.Expressions.{Answer}
 use Rattle.vertex_lang.specs.Rounds.{value_at, lone}
 use Rattle.round_kernel.specs.declared.feed.Feed.{Feed}
 use Rattle.round_kernel.specs.declared.feed.Feed.TheVariants as feeds
-use Rattle.round_kernel.specs.declared.live.Live.{Live}
-use Rattle.round_kernel.specs.declared.live.Link.{Link}
 use Rattle.round_kernel.specs.declared.round.Frame.{Frame}
-use Rattle.round_kernel.specs.Links.{tail_of, link_of}
-use Rattle.round_kernel.specs.Lives.{AreLive}
+use Rattle.round_kernel.specs.Listings.{AreTails, AreLinks}
 use Rattle.round_kernel.specs.Codes.{number_at}
-use Rattle.round_kernel.specs.Numbers.{AreProper, IsStep}
+use Rattle.round_kernel.specs.Numbers.{IsStep}
 use Rattle.round_kernel.specs.Sides.{arcs_in, MayKeep}
 
 module _ (answer : Answer) (p : Program) (graph : GraphData) (all : List Arc) (edges : List Bool) (r : ℕ) where
@@ -23,15 +19,6 @@ module _ (answer : Answer) (p : Program) (graph : GraphData) (all : List Arc) (e
     pub step : IsStep p column
     pub size : length numbers ≡ length graph.ids
     pub each : (u : ℕ) → u < length graph.ids → number_at numbers u ≡ value_at (lone answer p graph (arcs_in all edges) r) u
-
--- the tails of the arcs of the view
-abbrev pub AreTails : GraphData → List Arc → List Bool → Live NodeNo → Type 0
-AreTails graph all edges live = AreLive tail_of all edges (length graph.ids) live
-
--- the tails of the arcs of the view, each with a property of the edge
-pub record AreLinks (graph : GraphData) (all : List Arc) (edges : List Bool) (column : ℕ) (live : Live Link) : Type 0 where
-  pub rows : AreLive (link_of graph column) all edges (length graph.ids) live
-  pub proper : AreProper graph column
 
 abbrev pub IsFed : Answer → Program → GraphData → List Arc → List Bool → ℕ → Feed → Type 0
 IsFed answer p graph all edges r (feeds.Messages live) = MayKeep true p graph × IfSome live (AreTails graph all edges)

@@ -15,8 +15,9 @@ pub mod RowLaws
 pub mod Numbers
 pub mod Links
 pub mod Lives
+pub mod Listings
 pub mod Telling
-pub mod Listing
+pub mod StillLinks
 pub mod Flags
 pub mod Feeds
 pub mod Aiding

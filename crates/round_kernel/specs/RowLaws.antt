@@ -1,14 +1,19 @@
--- Rows of all edges run in their direction.
-use Rattle.std.specs.Prelude.{length, map}
+-- Rows of all edges run in their direction, and what is kept of a view may be another.
+use Rattle.std.specs.Prelude.{◌≡◌, List, length, map, All}
 use Rattle.std.specs.List.{range_with_len}
+use Rattle.std.specs.List.Sorted.{IsPermutation}
+use Rattle.std.proofs.Common.{sym, subst}
 use Rattle.std.proofs.lemmas.List.Sorted.{All-permutation}
 use Rattle.graph_model.specs.GraphData.{GraphData}
+use Rattle.vertex_lang.specs.declared.arc.Arc.{Arc}
 use Rattle.vertex_lang.specs.declared.program.Along.{Along}
 use Rattle.vertex_lang.specs.ArcLaws.{arcs-run}
 use Rattle.vertex_lang.specs.Arcs.{arcs_between}
 use Rattle.vertex_lang.specs.Directions.{RunsAlong}
 use Rattle.round_kernel.specs.declared.rows.Rows.{Rows}
-use Rattle.round_kernel.specs.RowLists.{edge}
+use Rattle.round_kernel.specs.declared.past.Past.{Past}
+use Rattle.round_kernel.specs.Listings.{IsPast}
+use Rattle.round_kernel.specs.RowLists.{edge, AreRows}
 use Rattle.round_kernel.specs.Steps.{AreOfAll, AreAlong}
 
 -- the arcs of all edges run in their direction
@@ -16,3 +21,23 @@ pub all-along : (way : Along) (graph : GraphData) (rows : Rows) → AreOfAll way
 all-along way graph rows is =
     let edges = map edge (range_with_len 0 (length graph.ends)) in
     All-permutation (RunsAlong way graph) (arcs_between way graph edges) rows.by_head is (arcs-run way graph edges)
+
+-- what is kept of a view may be of another one
+pub with-past : (graph : GraphData) (rows : Rows) (past : Past) → AreRows graph rows → IsPast graph rows.by_head past → AreRows graph (record rows { past = past })
+with-past graph rows past are is = record {
+  arcs = are.arcs;
+  few = are.few;
+  heads = are.heads;
+  tails = are.tails;
+  heads_rise = are.heads_rise;
+  tails_rise = are.tails_rise;
+  same = are.same;
+  past = is;
+}
+
+-- rows of the same arcs are of all edges too, and run in the same direction
+pub all-still : (way : Along) (graph : GraphData) (rows others : Rows) → others.by_head ≡ rows.by_head → AreOfAll way graph rows → AreOfAll way graph others
+all-still way graph rows others same is = subst (λ (arcs : List Arc). IsPermutation (arcs_between way graph (map edge (range_with_len 0 (length graph.ends)))) arcs) (sym same) is
+
+pub along-still : (way : Along) (graph : GraphData) (rows others : Rows) → others.by_head ≡ rows.by_head → AreAlong way graph rows → AreAlong way graph others
+along-still way graph rows others same is = subst (λ (arcs : List Arc). All (RunsAlong way graph) arcs) (sym same) is

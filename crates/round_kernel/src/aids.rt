@@ -4,9 +4,11 @@ ghost use Rattle.std.specs.Prelude.{◌≡◌, ◌<◌, ◌+◌, false, All, IfO
 ghost use Rattle.round_kernel.specs.Aiding.{StandsAided};
 ghost use Rattle.round_kernel.specs.Frames.{IsFrame, StandAt, count_in, lone_at, old_lone_at, was_touched_at};
 ghost use Rattle.round_kernel.specs.Histories.{HasChanges};
+ghost use Rattle.round_kernel.specs.Listings.{IsListed};
 
 use crate::feed::Feed;
 use crate::history::Change;
+use crate::past::Listed;
 use crate::round::{Frame, Lists};
 use crate::told::Told;
 use std::alloc::Global;
@@ -29,13 +31,15 @@ impl Aids {
         alloc: Global,
         frame: Frame<'_>,
         lists: &Lists,
+        listed: Listed,
         updater: &U,
     ) -> Result<Aids, NoMemory>
         requires frame { IsFrame U.answer frame frame.limit }
         requires at { StandAt U.answer frame 0 (was_touched_at U.answer frame 0) lists.now }
+        requires listed { IsListed frame.graph.now frame.rows.now.by_head frame.new.now listed }
         ensures aided { IfOk result (StandsAided U.answer frame.entry 0) }
     {
-        let feed = Feed::new(alloc, frame, lists, updater)?;
+        let feed = Feed::new(alloc, frame, lists, listed, updater)?;
         let told = Told::new(alloc, frame, lists, updater)?;
         Ok(Aids {
             feed,
@@ -59,7 +63,14 @@ impl Aids {
         ensures aided { OnOk result (StandsAided U.answer frame.entry round self.new) }
     {
         self.visits = self.visits.saturating_add(count);
-        if self.visits < frame.graph.node_count() as usize / 8 {
+        let nodes = frame.graph.node_count() as usize;
+        // Where hardly an arc comes to a node, its messages are found as fast without.
+        let many = if frame.rows.arcs().len() < 2 * nodes {
+            2 * nodes
+        } else {
+            nodes / 8
+        };
+        if self.visits < many {
             return Ok(());
         }
         let feed = mem::replace(&mut self.feed, Feed::Nothing);

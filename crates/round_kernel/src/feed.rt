@@ -3,9 +3,10 @@
 ghost use Rattle.std.specs.Prelude.{◌≡◌, ◌<◌, ◌+◌, length, All, IfOk, IfSome};
 ghost use Rattle.vertex_lang.specs.Leaves.{IsChecked};
 ghost use Rattle.lone_work.specs.Inputs.{got_values};
-ghost use Rattle.round_kernel.specs.Feeds.{AreLinks, AreTails, IsFed, StandsFed};
+ghost use Rattle.round_kernel.specs.Feeds.{IsFed, StandsFed};
 ghost use Rattle.round_kernel.specs.Frames.{IsFrame, StandAt, count_in, lone_at, was_touched_at};
 ghost use Rattle.round_kernel.specs.Histories.{HasChanges};
+ghost use Rattle.round_kernel.specs.Listings.{AreLinks, AreTails, IsListed};
 ghost use Rattle.round_kernel.specs.RowLists.{AreRows};
 ghost use Rattle.round_kernel.specs.Sides.{arcs_in, AreSent, IsRound};
 ghost use Rattle.round_kernel.specs.Tallies.{tally_of};
@@ -16,6 +17,7 @@ use crate::message::{Side, tally};
 use crate::numbers::{
     numbers_of, renew, step_column, tally_arcs, tally_links, tally_steps, tally_tails,
 };
+use crate::past::Listed;
 use crate::round::{Frame, Lists};
 use crate::rows::Rows;
 use crate::tally::Tally;
@@ -43,18 +45,20 @@ impl Feed {
         alloc: Global,
         frame: Frame<'_>,
         lists: &Lists,
+        listed: Listed,
         _updater: &U,
     ) -> Result<Feed, NoMemory>
         requires frame { IsFrame U.answer frame frame.limit }
         requires at { StandAt U.answer frame 0 (was_touched_at U.answer frame 0) lists.now }
+        requires listed { IsListed frame.graph.now frame.rows.now.by_head frame.new.now listed }
         ensures { IfOk result (StandsFed U.answer frame.entry 0) }
     {
         if lists.alike {
-            return Ok(Feed::Messages(None));
+            return Ok(Feed::Messages(listed.tails()));
         }
         match step_column(frame.program) {
             Some(column) => match numbers_of(alloc, &lists.new_now)? {
-                Some(numbers) => Ok(Feed::Steps(column, numbers, None)),
+                Some(numbers) => Ok(Feed::Steps(column, numbers, listed.links(column))),
                 None => Ok(Feed::Nothing),
             },
             None => Ok(Feed::Nothing),
@@ -83,6 +87,24 @@ impl Feed {
                 Ok(Feed::Steps(column, numbers, Some(live)))
             }
             Feed::Nothing => Ok(Feed::Nothing),
+        }
+    }
+
+    /// The arcs of the new view, if they are kept.
+    pub(crate) fn listed<U: Updater>(self, frame: Frame<'_>, _round: u32, _updater: &U) -> Listed
+        requires fed { StandsFed U.answer frame _round self }
+        ensures { IsListed frame.entry.graph.now frame.entry.rows.now.by_head frame.entry.new.now result }
+    {
+        match self {
+            Feed::Messages(kept) => match kept {
+                Some(tails) => Listed::Tails(tails),
+                None => Listed::Nothing,
+            },
+            Feed::Steps(column, _numbers, kept) => match kept {
+                Some(links) => Listed::Links(column, links),
+                None => Listed::Nothing,
+            },
+            Feed::Nothing => Listed::Nothing,
         }
     }
 

@@ -16,6 +16,7 @@ mod history;
 mod live;
 mod message;
 mod numbers;
+mod past;
 mod queue;
 mod round;
 mod rows;

@@ -7,6 +7,7 @@ ghost use Rattle.vertex_lang.specs.Rounds.{lone};
 ghost use Rattle.lone_work.specs.Work.{work};
 ghost use Rattle.round_kernel.specs.Sides.{arcs_in};
 ghost use Rattle.round_kernel.specs.Histories.{IsHistory, HasChanges, changes_from, all_from};
+ghost use Rattle.round_kernel.specs.Listings.{IsListed};
 ghost use Rattle.round_kernel.specs.RowLists.{AreRows};
 ghost use Rattle.round_kernel.specs.Rounds.{AreIdle};
 ghost use Rattle.round_kernel.specs.Frames.{IsFrame, StandAt, new_arcs, old_arcs, lone_at, was_touched_at, count_in, AreKept};
@@ -16,6 +17,7 @@ ghost use Rattle.round_kernel.specs.Steps.{HasRounds, IsRun, outcome_of, TellsAl
 use crate::aids::Aids;
 use crate::chained::ChainedLists;
 use crate::history::{Change, History};
+use crate::past::{Listed, Past};
 use crate::round::{Frame, Lists, go_on, run_round};
 use crate::rows::Rows;
 use crate::tally::Kept;
@@ -45,25 +47,28 @@ pub fn first_step<U: Updater>(
     alloc: Global,
     program: &Program,
     graph: &Graph,
-    rows: &Rows,
+    rows: &mut Rows,
     edges: &[bool],
     rounds: Rounds,
     updater: &mut U,
 ) -> Result<Stepped, NoMemory>
     requires checked { IsChecked program.now graph.now }
-    requires rows { AreRows graph.now rows.now }
+    requires rows { AreRows graph.now rows.old }
     requires edges { length edges.now ≡ length graph.now.ends }
     requires some { 1 ≤ number_of rounds }
     requires limit { number_of rounds ≤ 1_000_000 }
-    ensures history { IfOk result (λ s. IsHistory U.answer program.now graph.now (Some (arcs_in rows.now.by_head edges.now)) (number_of rounds) s.history) }
-    ensures outcome { IfOk result (λ s. s.outcome ≡ (answer_of U.answer program.now graph.now (arcs_in rows.now.by_head edges.now) rounds).outcome) }
-    ensures change { IfOk result (λ s. s.change ≡ all_from 0 (lone U.answer program.now graph.now (arcs_in rows.now.by_head edges.now) (number_of rounds))) }
-    ensures work { IfOk result (λ s. s.work ≡ work U.answer program.now graph.now (arcs_in rows.now.by_head edges.now) None (number_of rounds)) }
+    ensures rows { OnOk result (AreRows graph.now rows.new) }
+    ensures arcs { rows.new.by_head ≡ rows.old.by_head }
+    ensures history { IfOk result (λ s. IsHistory U.answer program.now graph.now (Some (arcs_in rows.old.by_head edges.now)) (number_of rounds) s.history) }
+    ensures outcome { IfOk result (λ s. s.outcome ≡ (answer_of U.answer program.now graph.now (arcs_in rows.old.by_head edges.now) rounds).outcome) }
+    ensures change { IfOk result (λ s. s.change ≡ all_from 0 (lone U.answer program.now graph.now (arcs_in rows.old.by_head edges.now) (number_of rounds))) }
+    ensures work { IfOk result (λ s. s.work ≡ work U.answer program.now graph.now (arcs_in rows.old.by_head edges.now) None (number_of rounds)) }
     ensures calls { IfOk result (λ s. U.calls updater.new ≡ U.calls updater.old + s.work) }
 {
     nodes_are_few(graph);
     let nothing = History::new(alloc);
     let none = vec![in alloc; false; edges.len()]?;
+    rows.past = Past::nothing(alloc);
     let frame = Frame {
         program,
         graph,
@@ -76,8 +81,9 @@ pub fn first_step<U: Updater>(
         turned: &[],
         limit: limit_of(rounds),
     };
-    let run = run_rounds(alloc, frame, updater)?;
+    let run = run_rounds(alloc, frame, Listed::Nothing, updater)?;
     let change = all_changes(alloc, &run.lists.new_now)?;
+    rows.past = Past::of(alloc, edges, run.listed);
     Ok(Stepped {
         outcome: outcome(&run.history, rounds),
         history: run.history,
@@ -92,7 +98,7 @@ pub fn next_step<U: Updater>(
     alloc: Global,
     program: &Program,
     graph: &Graph,
-    rows: &Rows,
+    rows: &mut Rows,
     history: &History,
     old: &[bool],
     new: &[bool],
@@ -101,23 +107,27 @@ pub fn next_step<U: Updater>(
     updater: &mut U,
 ) -> Result<Stepped, NoMemory>
     requires checked { IsChecked program.now graph.now }
-    requires rows { AreRows graph.now rows.now }
+    requires rows { AreRows graph.now rows.old }
     requires old { length old.now ≡ length graph.now.ends }
     requires new { length new.now ≡ length graph.now.ends }
     requires some { 1 ≤ number_of rounds }
     requires limit { number_of rounds ≤ 1_000_000 }
-    requires along { AreAlong program.now.along graph.now rows.now }
+    requires along { AreAlong program.now.along graph.now rows.old }
     requires turned { All (λ e. e.0 < length graph.now.ends) turned.now }
     requires all_turned { TellsAll old.now new.now turned.now }
-    requires history { IsHistory U.answer program.now graph.now (Some (arcs_in rows.now.by_head old.now)) (number_of rounds) history.now }
-    ensures history { IfOk result (λ s. IsHistory U.answer program.now graph.now (Some (arcs_in rows.now.by_head new.now)) (number_of rounds) s.history) }
-    ensures outcome { IfOk result (λ s. s.outcome ≡ (answer_of U.answer program.now graph.now (arcs_in rows.now.by_head new.now) rounds).outcome) }
-    ensures change { IfOk result (λ s. s.change ≡ changes_from 0 (lone U.answer program.now graph.now (arcs_in rows.now.by_head old.now) (number_of rounds)) (lone U.answer program.now graph.now (arcs_in rows.now.by_head new.now) (number_of rounds))) }
-    ensures work { IfOk result (λ s. s.work ≡ work U.answer program.now graph.now (arcs_in rows.now.by_head new.now) (Some (arcs_in rows.now.by_head old.now)) (number_of rounds)) }
+    requires history { IsHistory U.answer program.now graph.now (Some (arcs_in rows.old.by_head old.now)) (number_of rounds) history.now }
+    ensures rows { OnOk result (AreRows graph.now rows.new) }
+    ensures arcs { rows.new.by_head ≡ rows.old.by_head }
+    ensures history { IfOk result (λ s. IsHistory U.answer program.now graph.now (Some (arcs_in rows.old.by_head new.now)) (number_of rounds) s.history) }
+    ensures outcome { IfOk result (λ s. s.outcome ≡ (answer_of U.answer program.now graph.now (arcs_in rows.old.by_head new.now) rounds).outcome) }
+    ensures change { IfOk result (λ s. s.change ≡ changes_from 0 (lone U.answer program.now graph.now (arcs_in rows.old.by_head old.now) (number_of rounds)) (lone U.answer program.now graph.now (arcs_in rows.old.by_head new.now) (number_of rounds))) }
+    ensures work { IfOk result (λ s. s.work ≡ work U.answer program.now graph.now (arcs_in rows.old.by_head new.now) (Some (arcs_in rows.old.by_head old.now)) (number_of rounds)) }
     ensures calls { IfOk result (λ s. U.calls updater.new ≡ U.calls updater.old + s.work) }
 {
     nodes_are_few(graph);
     let arcs = arcs_of(alloc, graph, program.along, turned)?;
+    let past = mem::replace(&mut rows.past, Past::nothing(alloc));
+    let listed = past.turned(alloc, graph, rows, old, new, arcs.as_slice())?;
     let frame = Frame {
         program,
         graph,
@@ -130,8 +140,9 @@ pub fn next_step<U: Updater>(
         turned: arcs.as_slice(),
         limit: limit_of(rounds),
     };
-    let run = run_rounds(alloc, frame, updater)?;
+    let run = run_rounds(alloc, frame, listed, updater)?;
     let change = changes_between(alloc, &run.lists.old_now, &run.lists.new_now)?;
+    rows.past = Past::of(alloc, new, run.listed);
     Ok(Stepped {
         outcome: outcome(&run.history, rounds),
         history: run.history,
@@ -145,19 +156,27 @@ pub fn next_step<U: Updater>(
 struct Run {
     history: History,
     lists: Lists,
+    listed: Listed,
     work: u64,
 }
 
 // Goes through the rounds, until nothing changes in either view.
-fn run_rounds<U: Updater>(alloc: Global, frame: Frame<'_>, updater: &mut U) -> Result<Run, NoMemory>
+fn run_rounds<U: Updater>(
+    alloc: Global,
+    frame: Frame<'_>,
+    listed: Listed,
+    updater: &mut U,
+) -> Result<Run, NoMemory>
     requires frame { IsFrame U.answer frame frame.limit }
     requires limit { frame.limit ≤ 1_000_000 }
+    requires listed { IsListed frame.graph.now frame.rows.now.by_head frame.new.now listed }
+    ensures listed { IfOk result (λ run. IsListed frame.entry.graph.now frame.entry.rows.now.by_head frame.entry.new.now run.listed) }
     ensures run { IfOk result (IsRun U.answer frame.entry) }
     ensures calls { IfOk result (λ run. U.calls updater.new ≡ U.calls updater.old + run.work) }
 {
     let mut lists = Lists::new(alloc, frame, updater)?;
     let mut kept = vec![in alloc; Kept::new(); frame.graph.node_count() as usize]?;
-    let mut aids = Aids::new(alloc, frame, &lists, updater)?;
+    let mut aids = Aids::new(alloc, frame, &lists, listed, updater)?;
     let mut history = History::beside(alloc, frame.history)?;
     let mut made = Made::new(alloc);
     let mut work = 0;
@@ -181,6 +200,7 @@ fn run_rounds<U: Updater>(alloc: Global, frame: Frame<'_>, updater: &mut U) -> R
     Ok(Run {
         history,
         lists,
+        listed: aids.feed.listed(frame, round, updater),
         work,
     })
 }

@@ -11,7 +11,7 @@ ghost use Rattle.round_kernel.specs.Links.{brought_over, number_over, sent_by_ta
 ghost use Rattle.round_kernel.specs.RowLists.{AreRows};
 ghost use Rattle.round_kernel.specs.Sides.{all_brought, row_of, AreLeft, AreSent, IsRound, IsSized, IsTurned};
 ghost use Rattle.round_kernel.specs.Telling.{InMovers, AreStill};
-ghost use Rattle.round_kernel.specs.Listing.{IsStillOver};
+ghost use Rattle.round_kernel.specs.StillLinks.{IsStillOver};
 
 use crate::feed::Feed;
 use crate::live::Link;

@@ -158,9 +158,7 @@ fn visit_touched<U: Updater>(
     ensures calls { IfOk result (λ n. U.calls updater.new ≡ U.calls updater.old + n) }
 {
     if is_new_input(program, graph, rows, sides, spot, was, updater) {
-        return visit_marked(
-            program, graph, rows, sides, spot, kept, aids, made, updater,
-        );
+        return visit_marked(program, graph, rows, sides, spot, kept, aids, made, updater);
     }
     visit_again(
         program, graph, rows, sides, spot, was, kept, aids, scratch, made, updater,

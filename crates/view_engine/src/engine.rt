@@ -229,14 +229,14 @@ impl<'g> Engine<'g> {
         ensures moved { OnOk result (HasStepped segment self.old self.new (U.calls updater.old) (U.calls updater.new)) }
         ensures stands { OnOk result (SoFar U.answer matrix.now self.new) }
     {
-        let rows = take_rows(self.alloc, &mut self.rows, self.graph, self.program.along)?;
+        let mut rows = take_rows(self.alloc, &mut self.rows, self.graph, self.program.along)?;
         let given = self.segments[segment].step(
             self.alloc,
             self.graph,
             self.program,
             self.rounds,
             matrix,
-            &rows,
+            &mut rows,
             updater,
         )?;
         self.rows = Some(rows);

@@ -87,18 +87,20 @@ impl Segment {
         program: &Program,
         rounds: Rounds,
         matrix: &Matrix,
-        rows: &Rows,
+        rows: &mut Rows,
         updater: &mut U,
     ) -> Result<Given, NoMemory>
         requires checked { IsChecked program.now graph.now }
         requires some { 1 ≤ number_of rounds }
         requires limit { number_of rounds ≤ 1_000_000 }
-        requires rows { AreRows graph.now rows.now }
-        requires along { AreOfAll program.now.along graph.now rows.now }
+        requires rows { AreRows graph.now rows.old }
+        requires along { AreOfAll program.now.along graph.now rows.old }
         requires matrix { length matrix.now.live ≡ length graph.now.ends }
         requires views { All (IsView matrix.now) self.old.views }
         requires unfinished { length self.old.works < length self.old.views }
         requires stands { SegmentStands (task_over U.answer program.now graph.now rounds matrix.now) self.old }
+        ensures rows { OnOk result (AreRows graph.now rows.new) }
+        ensures arcs { rows.new.by_head ≡ rows.old.by_head }
         ensures stands { OnOk result (SegmentStands (task_over U.answer program.now graph.now rounds matrix.now) self.new) }
         ensures views { OnOk result (self.new.views ≡ self.old.views) }
         ensures work { IfOk result (λ given. self.new.works ≡ self.old.works ++ (work_of (task_over U.answer program.now graph.now rounds matrix.now) (last_stepped self.old) given.view.0 ∷ [])) }
@@ -110,10 +112,9 @@ impl Segment {
             graph,
             rounds,
             matrix,
-            rows,
         };
         let view = self.views.as_slice()[self.works.len()];
-        let (before, stepped) = self.step_view(alloc, setting, view, updater)?;
+        let (before, stepped) = self.step_view(alloc, setting, rows, view, updater)?;
         let Stepped {
             history,
             outcome,
@@ -135,25 +136,28 @@ impl Segment {
         &self,
         alloc: Global,
         setting: Setting<'_>,
+        rows: &mut Rows,
         view: ViewNo,
         updater: &mut U,
     ) -> Result<(Option<ViewNo>, Stepped), NoMemory>
-        requires setting { IsSetting setting }
+        requires setting { IsSetting setting rows.old }
         requires views { All (IsView setting.matrix.now) self.now.views }
         requires view { IsView setting.matrix.now view }
         requires stands { SegmentStands (task_in U.answer setting) self.now }
+        ensures rows { OnOk result (AreRows setting.entry.graph.now rows.new) }
+        ensures arcs { rows.new.by_head ≡ rows.old.by_head }
         ensures before { IfOk result (λ made. place_of made.0 ≡ last_stepped self.now) }
         ensures step { IfOk result (λ made. IsStep (task_in U.answer setting.entry) (last_stepped self.now) view.0 made.1) }
         ensures calls { IfOk result (λ made. U.calls updater.new ≡ U.calls updater.old + made.1.work) }
     {
         match &self.history {
             None => {
-                let stepped = step_first(alloc, setting, view, updater)?;
+                let stepped = step_first(alloc, setting, rows, view, updater)?;
                 Ok((None, stepped))
             }
             Some(history) => {
                 let before = self.views.as_slice()[self.works.len() - 1];
-                let stepped = step_later(alloc, setting, before, history, view, updater)?;
+                let stepped = step_later(alloc, setting, rows, before, history, view, updater)?;
                 Ok((Some(before), stepped))
             }
         }

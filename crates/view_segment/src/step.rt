@@ -1,10 +1,11 @@
 //! The step of one view.
 
-ghost use Rattle.std.specs.Prelude.{◌≡◌, ◌<◌, ◌+◌, length, All, Some, None, IfOk};
+ghost use Rattle.std.specs.Prelude.{◌≡◌, ◌<◌, ◌+◌, length, All, Some, None, IfOk, OnOk};
 ghost use Rattle.vertex_lang.specs.Lone.{number_of, answer_of};
 ghost use Rattle.vertex_lang.specs.Rounds.{lone};
 ghost use Rattle.lone_work.specs.Work.{work};
 ghost use Rattle.round_kernel.specs.Histories.{IsHistory, all_from, changes_from};
+ghost use Rattle.round_kernel.specs.RowLists.{AreRows};
 ghost use Rattle.round_kernel.specs.Sides.{arcs_in};
 ghost use Rattle.round_kernel.specs.Steps.{TellsAll};
 ghost use Rattle.view_matrix.specs.Matrices.{IsView};
@@ -26,40 +27,45 @@ pub(crate) struct Setting<'a> {
     pub(crate) graph: &'a Graph,
     pub(crate) rounds: Rounds,
     pub(crate) matrix: &'a Matrix,
-    pub(crate) rows: &'a Rows,
 }
 
 /// Steps a view that none stands before. The error is want of memory.
 pub(crate) fn step_first<U: Updater>(
     alloc: Global,
     setting: Setting<'_>,
+    rows: &mut Rows,
     view: ViewNo,
     updater: &mut U,
 ) -> Result<Stepped, NoMemory>
-    requires setting { IsSetting setting }
+    requires setting { IsSetting setting rows.old }
     requires view { IsView setting.matrix.now view }
     ensures step { IfOk result (IsStep (task_in U.answer setting.entry) None view.0) }
+    ensures rows { OnOk result (AreRows setting.entry.graph.now rows.new) }
+    ensures arcs { rows.new.by_head ≡ rows.old.by_head }
     ensures calls { IfOk result (λ s. U.calls updater.new ≡ U.calls updater.old + s.work) }
 {
     let few = are_few(setting.graph, setting.matrix.size(view));
     let edges = setting.matrix.flags(alloc, view)?;
-    first_within(alloc, setting, few, &edges, updater)
+    first_within(alloc, setting, rows, few, &edges, updater)
 }
 
 /// Steps a view behind another one, given the history of that one. The error is want of memory.
 pub(crate) fn step_later<U: Updater>(
     alloc: Global,
     setting: Setting<'_>,
+    rows: &mut Rows,
     before: ViewNo,
     history: &History,
     view: ViewNo,
     updater: &mut U,
 ) -> Result<Stepped, NoMemory>
-    requires setting { IsSetting setting }
+    requires setting { IsSetting setting rows.old }
     requires before { IsView setting.matrix.now before }
     requires view { IsView setting.matrix.now view }
     requires history { IsHistory U.answer setting.program.now setting.graph.now (Some (view_arcs (task_in U.answer setting) before.0)) (number_of setting.rounds) history.now }
     ensures step { IfOk result (IsStep (task_in U.answer setting.entry) (Some before.0) view.0) }
+    ensures rows { OnOk result (AreRows setting.entry.graph.now rows.new) }
+    ensures arcs { rows.new.by_head ≡ rows.old.by_head }
     ensures calls { IfOk result (λ s. U.calls updater.new ≡ U.calls updater.old + s.work) }
 {
     let turned = turned_edges(alloc, setting.matrix, before, view)?;
@@ -70,6 +76,7 @@ pub(crate) fn step_later<U: Updater>(
     next_within(
         alloc,
         setting,
+        rows,
         few,
         history,
         &old,
@@ -92,26 +99,29 @@ fn are_few(graph: &Graph, edges: u64) -> bool {
 fn first_within<U: Updater>(
     alloc: Global,
     setting: Setting<'_>,
+    rows: &mut Rows,
     few: bool,
     edges: &[bool],
     updater: &mut U,
 ) -> Result<Stepped, NoMemory>
-    requires setting { IsSetting setting }
+    requires setting { IsSetting setting rows.old }
     requires edges { length edges.now ≡ length setting.graph.now.ends }
-    ensures history { IfOk result (λ s. IsHistory U.answer setting.entry.program.now setting.entry.graph.now (Some (arcs_in setting.entry.rows.now.by_head edges.now)) (number_of setting.entry.rounds) s.history) }
-    ensures outcome { IfOk result (λ s. s.outcome ≡ (answer_of U.answer setting.entry.program.now setting.entry.graph.now (arcs_in setting.entry.rows.now.by_head edges.now) setting.entry.rounds).outcome) }
-    ensures change { IfOk result (λ s. s.change ≡ all_from 0 (lone U.answer setting.entry.program.now setting.entry.graph.now (arcs_in setting.entry.rows.now.by_head edges.now) (number_of setting.entry.rounds))) }
-    ensures work { IfOk result (λ s. s.work ≡ work U.answer setting.entry.program.now setting.entry.graph.now (arcs_in setting.entry.rows.now.by_head edges.now) None (number_of setting.entry.rounds)) }
+    ensures history { IfOk result (λ s. IsHistory U.answer setting.entry.program.now setting.entry.graph.now (Some (arcs_in rows.old.by_head edges.now)) (number_of setting.entry.rounds) s.history) }
+    ensures outcome { IfOk result (λ s. s.outcome ≡ (answer_of U.answer setting.entry.program.now setting.entry.graph.now (arcs_in rows.old.by_head edges.now) setting.entry.rounds).outcome) }
+    ensures change { IfOk result (λ s. s.change ≡ all_from 0 (lone U.answer setting.entry.program.now setting.entry.graph.now (arcs_in rows.old.by_head edges.now) (number_of setting.entry.rounds))) }
+    ensures work { IfOk result (λ s. s.work ≡ work U.answer setting.entry.program.now setting.entry.graph.now (arcs_in rows.old.by_head edges.now) None (number_of setting.entry.rounds)) }
+    ensures rows { OnOk result (AreRows setting.entry.graph.now rows.new) }
+    ensures arcs { rows.new.by_head ≡ rows.old.by_head }
     ensures calls { IfOk result (λ s. U.calls updater.new ≡ U.calls updater.old + s.work) }
 {
     if few {
-        first_few(alloc, setting, edges, updater)
+        first_few(alloc, setting, rows, edges, updater)
     } else {
         first_step(
             alloc,
             setting.program,
             setting.graph,
-            setting.rows,
+            rows,
             edges,
             setting.rounds,
             updater,
@@ -123,23 +133,26 @@ fn first_within<U: Updater>(
 fn first_few<U: Updater>(
     alloc: Global,
     setting: Setting<'_>,
+    rows: &mut Rows,
     edges: &[bool],
     updater: &mut U,
 ) -> Result<Stepped, NoMemory>
-    requires setting { IsSetting setting }
+    requires setting { IsSetting setting rows.old }
     requires edges { length edges.now ≡ length setting.graph.now.ends }
-    ensures history { IfOk result (λ s. IsHistory U.answer setting.entry.program.now setting.entry.graph.now (Some (arcs_in setting.entry.rows.now.by_head edges.now)) (number_of setting.entry.rounds) s.history) }
-    ensures outcome { IfOk result (λ s. s.outcome ≡ (answer_of U.answer setting.entry.program.now setting.entry.graph.now (arcs_in setting.entry.rows.now.by_head edges.now) setting.entry.rounds).outcome) }
-    ensures change { IfOk result (λ s. s.change ≡ all_from 0 (lone U.answer setting.entry.program.now setting.entry.graph.now (arcs_in setting.entry.rows.now.by_head edges.now) (number_of setting.entry.rounds))) }
-    ensures work { IfOk result (λ s. s.work ≡ work U.answer setting.entry.program.now setting.entry.graph.now (arcs_in setting.entry.rows.now.by_head edges.now) None (number_of setting.entry.rounds)) }
+    ensures history { IfOk result (λ s. IsHistory U.answer setting.entry.program.now setting.entry.graph.now (Some (arcs_in rows.old.by_head edges.now)) (number_of setting.entry.rounds) s.history) }
+    ensures outcome { IfOk result (λ s. s.outcome ≡ (answer_of U.answer setting.entry.program.now setting.entry.graph.now (arcs_in rows.old.by_head edges.now) setting.entry.rounds).outcome) }
+    ensures change { IfOk result (λ s. s.change ≡ all_from 0 (lone U.answer setting.entry.program.now setting.entry.graph.now (arcs_in rows.old.by_head edges.now) (number_of setting.entry.rounds))) }
+    ensures work { IfOk result (λ s. s.work ≡ work U.answer setting.entry.program.now setting.entry.graph.now (arcs_in rows.old.by_head edges.now) None (number_of setting.entry.rounds)) }
+    ensures rows { OnOk result (AreRows setting.entry.graph.now rows.new) }
+    ensures arcs { rows.new.by_head ≡ rows.old.by_head }
     ensures calls { IfOk result (λ s. U.calls updater.new ≡ U.calls updater.old + s.work) }
 {
-    let rows = setting.rows.within(alloc, setting.graph, edges, edges)?;
+    let mut chosen = rows.within(alloc, setting.graph, edges, edges)?;
     first_step(
         alloc,
         setting.program,
         setting.graph,
-        &rows,
+        &mut chosen,
         edges,
         setting.rounds,
         updater,
@@ -151,6 +164,7 @@ fn first_few<U: Updater>(
 fn next_within<U: Updater>(
     alloc: Global,
     setting: Setting<'_>,
+    rows: &mut Rows,
     few: bool,
     history: &History,
     old: &[bool],
@@ -158,26 +172,28 @@ fn next_within<U: Updater>(
     turned: &[EdgeNo],
     updater: &mut U,
 ) -> Result<Stepped, NoMemory>
-    requires setting { IsSetting setting }
+    requires setting { IsSetting setting rows.old }
     requires old { length old.now ≡ length setting.graph.now.ends }
     requires new { length new.now ≡ length setting.graph.now.ends }
     requires turned { All (λ e. e.0 < length setting.graph.now.ends) turned.now }
     requires all_turned { TellsAll old.now new.now turned.now }
-    requires history { IsHistory U.answer setting.program.now setting.graph.now (Some (arcs_in setting.rows.now.by_head old.now)) (number_of setting.rounds) history.now }
-    ensures history { IfOk result (λ s. IsHistory U.answer setting.entry.program.now setting.entry.graph.now (Some (arcs_in setting.entry.rows.now.by_head new.now)) (number_of setting.entry.rounds) s.history) }
-    ensures outcome { IfOk result (λ s. s.outcome ≡ (answer_of U.answer setting.entry.program.now setting.entry.graph.now (arcs_in setting.entry.rows.now.by_head new.now) setting.entry.rounds).outcome) }
-    ensures change { IfOk result (λ s. s.change ≡ changes_from 0 (lone U.answer setting.entry.program.now setting.entry.graph.now (arcs_in setting.entry.rows.now.by_head old.now) (number_of setting.entry.rounds)) (lone U.answer setting.entry.program.now setting.entry.graph.now (arcs_in setting.entry.rows.now.by_head new.now) (number_of setting.entry.rounds))) }
-    ensures work { IfOk result (λ s. s.work ≡ work U.answer setting.entry.program.now setting.entry.graph.now (arcs_in setting.entry.rows.now.by_head new.now) (Some (arcs_in setting.entry.rows.now.by_head old.now)) (number_of setting.entry.rounds)) }
+    requires history { IsHistory U.answer setting.program.now setting.graph.now (Some (arcs_in rows.old.by_head old.now)) (number_of setting.rounds) history.now }
+    ensures history { IfOk result (λ s. IsHistory U.answer setting.entry.program.now setting.entry.graph.now (Some (arcs_in rows.old.by_head new.now)) (number_of setting.entry.rounds) s.history) }
+    ensures outcome { IfOk result (λ s. s.outcome ≡ (answer_of U.answer setting.entry.program.now setting.entry.graph.now (arcs_in rows.old.by_head new.now) setting.entry.rounds).outcome) }
+    ensures change { IfOk result (λ s. s.change ≡ changes_from 0 (lone U.answer setting.entry.program.now setting.entry.graph.now (arcs_in rows.old.by_head old.now) (number_of setting.entry.rounds)) (lone U.answer setting.entry.program.now setting.entry.graph.now (arcs_in rows.old.by_head new.now) (number_of setting.entry.rounds))) }
+    ensures work { IfOk result (λ s. s.work ≡ work U.answer setting.entry.program.now setting.entry.graph.now (arcs_in rows.old.by_head new.now) (Some (arcs_in rows.old.by_head old.now)) (number_of setting.entry.rounds)) }
+    ensures rows { OnOk result (AreRows setting.entry.graph.now rows.new) }
+    ensures arcs { rows.new.by_head ≡ rows.old.by_head }
     ensures calls { IfOk result (λ s. U.calls updater.new ≡ U.calls updater.old + s.work) }
 {
     if few {
-        next_few(alloc, setting, history, old, new, turned, updater)
+        next_few(alloc, setting, rows, history, old, new, turned, updater)
     } else {
         next_step(
             alloc,
             setting.program,
             setting.graph,
-            setting.rows,
+            rows,
             history,
             old,
             new,
@@ -192,30 +208,33 @@ fn next_within<U: Updater>(
 fn next_few<U: Updater>(
     alloc: Global,
     setting: Setting<'_>,
+    rows: &mut Rows,
     history: &History,
     old: &[bool],
     new: &[bool],
     turned: &[EdgeNo],
     updater: &mut U,
 ) -> Result<Stepped, NoMemory>
-    requires setting { IsSetting setting }
+    requires setting { IsSetting setting rows.old }
     requires old { length old.now ≡ length setting.graph.now.ends }
     requires new { length new.now ≡ length setting.graph.now.ends }
     requires turned { All (λ e. e.0 < length setting.graph.now.ends) turned.now }
     requires all_turned { TellsAll old.now new.now turned.now }
-    requires history { IsHistory U.answer setting.program.now setting.graph.now (Some (arcs_in setting.rows.now.by_head old.now)) (number_of setting.rounds) history.now }
-    ensures history { IfOk result (λ s. IsHistory U.answer setting.entry.program.now setting.entry.graph.now (Some (arcs_in setting.entry.rows.now.by_head new.now)) (number_of setting.entry.rounds) s.history) }
-    ensures outcome { IfOk result (λ s. s.outcome ≡ (answer_of U.answer setting.entry.program.now setting.entry.graph.now (arcs_in setting.entry.rows.now.by_head new.now) setting.entry.rounds).outcome) }
-    ensures change { IfOk result (λ s. s.change ≡ changes_from 0 (lone U.answer setting.entry.program.now setting.entry.graph.now (arcs_in setting.entry.rows.now.by_head old.now) (number_of setting.entry.rounds)) (lone U.answer setting.entry.program.now setting.entry.graph.now (arcs_in setting.entry.rows.now.by_head new.now) (number_of setting.entry.rounds))) }
-    ensures work { IfOk result (λ s. s.work ≡ work U.answer setting.entry.program.now setting.entry.graph.now (arcs_in setting.entry.rows.now.by_head new.now) (Some (arcs_in setting.entry.rows.now.by_head old.now)) (number_of setting.entry.rounds)) }
+    requires history { IsHistory U.answer setting.program.now setting.graph.now (Some (arcs_in rows.old.by_head old.now)) (number_of setting.rounds) history.now }
+    ensures history { IfOk result (λ s. IsHistory U.answer setting.entry.program.now setting.entry.graph.now (Some (arcs_in rows.old.by_head new.now)) (number_of setting.entry.rounds) s.history) }
+    ensures outcome { IfOk result (λ s. s.outcome ≡ (answer_of U.answer setting.entry.program.now setting.entry.graph.now (arcs_in rows.old.by_head new.now) setting.entry.rounds).outcome) }
+    ensures change { IfOk result (λ s. s.change ≡ changes_from 0 (lone U.answer setting.entry.program.now setting.entry.graph.now (arcs_in rows.old.by_head old.now) (number_of setting.entry.rounds)) (lone U.answer setting.entry.program.now setting.entry.graph.now (arcs_in rows.old.by_head new.now) (number_of setting.entry.rounds))) }
+    ensures work { IfOk result (λ s. s.work ≡ work U.answer setting.entry.program.now setting.entry.graph.now (arcs_in rows.old.by_head new.now) (Some (arcs_in rows.old.by_head old.now)) (number_of setting.entry.rounds)) }
+    ensures rows { OnOk result (AreRows setting.entry.graph.now rows.new) }
+    ensures arcs { rows.new.by_head ≡ rows.old.by_head }
     ensures calls { IfOk result (λ s. U.calls updater.new ≡ U.calls updater.old + s.work) }
 {
-    let rows = setting.rows.within(alloc, setting.graph, old, new)?;
+    let mut chosen = rows.within(alloc, setting.graph, old, new)?;
     next_step(
         alloc,
         setting.program,
         setting.graph,
-        &rows,
+        &mut chosen,
         history,
         old,
         new,

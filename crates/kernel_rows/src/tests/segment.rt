@@ -1,6 +1,6 @@
 //! Views stepped one behind the other, each compared with its plain run, its counted work, and what was worked out by hand.
 
-ghost use Rattle.std.specs.Prelude.{◌≡◌, ◌<◌, ◌≤◌, ◌+◌, ◌^◌, None, Some, length, All, IfOk};
+ghost use Rattle.std.specs.Prelude.{◌≡◌, ◌<◌, ◌≤◌, ◌+◌, ◌^◌, None, Some, length, All, IfOk, OnOk};
 ghost use Rattle.vertex_lang.specs.Arcs.{IsArc};
 ghost use Rattle.vertex_lang.specs.Leaves.{IsChecked};
 ghost use Rattle.vertex_lang.specs.Lone.{number_of, answer_of};
@@ -215,7 +215,7 @@ fn later_step<U: Updater>(
     alloc: Global,
     program: &Program,
     graph: &Graph,
-    rows: &Rows,
+    rows: &mut Rows,
     history: &History,
     old: &[bool],
     new: &[bool],
@@ -223,16 +223,18 @@ fn later_step<U: Updater>(
     updater: &mut U,
 ) -> Result<Stepped, NoMemory>
     requires checked { IsChecked program.now graph.now }
-    requires rows { AreRows graph.now rows.now }
-    requires along { AreAlong program.now.along graph.now rows.now }
+    requires rows { AreRows graph.now rows.old }
+    requires along { AreAlong program.now.along graph.now rows.old }
     requires old { length old.now ≡ length graph.now.ends }
     requires new { length new.now ≡ length graph.now.ends }
     requires some { 1 ≤ number_of rounds }
     requires limit { number_of rounds ≤ 1_000_000 }
-    requires history { IsHistory U.answer program.now graph.now (Some (arcs_in rows.now.by_head old.now)) (number_of rounds) history.now }
-    ensures history { IfOk result (λ s. IsHistory U.answer program.now graph.now (Some (arcs_in rows.now.by_head new.now)) (number_of rounds) s.history) }
-    ensures outcome { IfOk result (λ s. s.outcome ≡ (answer_of U.answer program.now graph.now (arcs_in rows.now.by_head new.now) rounds).outcome) }
-    ensures work { IfOk result (λ s. s.work ≡ work U.answer program.now graph.now (arcs_in rows.now.by_head new.now) (Some (arcs_in rows.now.by_head old.now)) (number_of rounds)) }
+    requires history { IsHistory U.answer program.now graph.now (Some (arcs_in rows.old.by_head old.now)) (number_of rounds) history.now }
+    ensures rows { OnOk result (AreRows graph.now rows.new) }
+    ensures arcs { rows.new.by_head ≡ rows.old.by_head }
+    ensures history { IfOk result (λ s. IsHistory U.answer program.now graph.now (Some (arcs_in rows.old.by_head new.now)) (number_of rounds) s.history) }
+    ensures outcome { IfOk result (λ s. s.outcome ≡ (answer_of U.answer program.now graph.now (arcs_in rows.old.by_head new.now) rounds).outcome) }
+    ensures work { IfOk result (λ s. s.work ≡ work U.answer program.now graph.now (arcs_in rows.old.by_head new.now) (Some (arcs_in rows.old.by_head old.now)) (number_of rounds)) }
 {
     graph.edge_count();
     let turned = turned(alloc, old, new)?;
@@ -270,7 +272,7 @@ fn later_views<U: Updater>(
     alloc: Global,
     program: &Program,
     graph: &Graph,
-    rows: &Rows,
+    rows: &mut Rows,
     first: &[bool],
     history: History,
     values: &mut [Val],
@@ -279,12 +281,12 @@ fn later_views<U: Updater>(
     updater: &mut U,
 ) -> Result<Finding, NoMemory>
     requires checked { IsChecked program.now graph.now }
-    requires rows { AreRows graph.now rows.now }
-    requires along { AreAlong program.now.along graph.now rows.now }
+    requires rows { AreRows graph.now rows.old }
+    requires along { AreAlong program.now.along graph.now rows.old }
     requires first { length first.now ≡ length graph.now.ends }
     requires some { 1 ≤ number_of rounds }
     requires limit { number_of rounds ≤ 1_000_000 }
-    requires history { IsHistory U.answer program.now graph.now (Some (arcs_in rows.now.by_head first.now)) (number_of rounds) history }
+    requires history { IsHistory U.answer program.now graph.now (Some (arcs_in rows.old.by_head first.now)) (number_of rounds) history }
 {
     let mut history = history;
     let mut old = first;
@@ -327,9 +329,9 @@ pub(crate) fn segment<U: Updater>(
     if edges.len() != graph.edge_count() as usize {
         return Ok(Finding::OtherEdges);
     }
-    let rows = Rows::new(alloc, graph, program.along)?;
+    let mut rows = Rows::new(alloc, graph, program.along)?;
     let mut values = vec![in alloc; Val::Nil; graph.node_count() as usize]?;
-    let stepped = first_step(alloc, program, graph, &rows, edges, rounds, updater)?;
+    let stepped = first_step(alloc, program, graph, &mut rows, edges, rounds, updater)?;
     let plain = first_plain(alloc, program, graph, edges, rounds, updater)?;
     apply(&mut values, stepped.change.as_slice());
     let found = compare(&stepped, &plain, &values, first);
@@ -340,7 +342,7 @@ pub(crate) fn segment<U: Updater>(
         alloc,
         program,
         graph,
-        &rows,
+        &mut rows,
         edges,
         stepped.history,
         &mut values,

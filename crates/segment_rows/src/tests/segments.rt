@@ -87,15 +87,15 @@ fn step_all<U: Updater>(
     program: &Program,
     rounds: Rounds,
     matrix: &Matrix,
-    rows: &Rows,
+    rows: &mut Rows,
     segment: &mut Segment,
     updater: &mut U,
 ) -> Result<String, NoMemory>
     requires checked { IsChecked program.now graph.now }
     requires some { 1 ≤ number_of rounds }
     requires limit { number_of rounds ≤ 1_000_000 }
-    requires rows { AreRows graph.now rows.now }
-    requires along { AreOfAll program.now.along graph.now rows.now }
+    requires rows { AreRows graph.now rows.old }
+    requires along { AreOfAll program.now.along graph.now rows.old }
     requires matrix { length matrix.now.live ≡ length graph.now.ends }
     requires views { All (IsView matrix.now) segment.old.views }
     requires stands { SegmentStands (task_over U.answer program.now graph.now rounds matrix.now) segment.old }
@@ -135,7 +135,7 @@ fn hops_in<L: Ledger>(
     let program = hops(alloc, 1)?;
     let live = all_live(alloc, graph)?;
     let matrix = Matrix::build(alloc, graph, &live, rules)?;
-    let rows = Rows::new(alloc, graph, program.along)?;
+    let mut rows = Rows::new(alloc, graph, program.along)?;
     let mut segment = whole(alloc, &matrix)?;
     let mut text = step_all(
         alloc,
@@ -143,7 +143,7 @@ fn hops_in<L: Ledger>(
         &program,
         rounds,
         &matrix,
-        &rows,
+        &mut rows,
         &mut segment,
         &mut steps,
     )?;

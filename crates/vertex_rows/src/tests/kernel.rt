@@ -81,7 +81,7 @@ fn next_by_kernel<U: Updater>(
     alloc: Global,
     program: &Program,
     graph: &Graph,
-    rows: &Rows,
+    rows: &mut Rows,
     history: &History,
     old: &[bool],
     new: &[bool],
@@ -89,16 +89,18 @@ fn next_by_kernel<U: Updater>(
     updater: &mut U,
 ) -> Result<Stepped, NoMemory>
     requires checked { IsChecked program.now graph.now }
-    requires rows { AreRows graph.now rows.now }
-    requires along { AreAlong program.now.along graph.now rows.now }
+    requires rows { AreRows graph.now rows.old }
+    requires along { AreAlong program.now.along graph.now rows.old }
     requires old { length old.now ≡ length graph.now.ends }
     requires new { length new.now ≡ length graph.now.ends }
     requires some { 1 ≤ rounds }
     requires limit { rounds ≤ 1_000_000 }
     requires history { IsHistory U.answer program.now graph.now
-        (Some (arcs_in rows.now.by_head old.now)) rounds history.now }
-    ensures { IfOk result (λ s. IsHistory U.answer program.now graph.now
-        (Some (arcs_in rows.now.by_head new.now)) rounds s.history) }
+        (Some (arcs_in rows.old.by_head old.now)) rounds history.now }
+    ensures rows { OnOk result (AreRows graph.now rows.new) }
+    ensures arcs { rows.new.by_head ≡ rows.old.by_head }
+    ensures history { IfOk result (λ s. IsHistory U.answer program.now graph.now
+        (Some (arcs_in rows.old.by_head new.now)) rounds s.history) }
 {
     let edges = all_edges(alloc, graph)?;
     next_step(
@@ -146,7 +148,7 @@ fn later_view<U: Updater, O: Operator<Position, U, Input = FlowInput, Output = M
     t: Position,
     program: &Program,
     graph: &Graph,
-    rows: &Rows,
+    rows: &mut Rows,
     old: &Stood,
     rounds: u32,
     bits: u32,
@@ -154,17 +156,19 @@ fn later_view<U: Updater, O: Operator<Position, U, Input = FlowInput, Output = M
 ) -> Result<Option<Stood>, NoMemory>
     requires drives { Drives O.stands O.seal O.spent flow.old times.old seal }
     requires checked { IsChecked program.now graph.now }
-    requires rows { AreRows graph.now rows.now }
-    requires along { AreAlong program.now.along graph.now rows.now }
+    requires rows { AreRows graph.now rows.old }
+    requires along { AreAlong program.now.along graph.now rows.old }
     requires some { 1 ≤ rounds }
     requires limit { rounds ≤ 1_000_000 }
     requires flags { length old.now.flags.items ≡ length graph.now.ends }
     requires history { IsHistory U.answer program.now graph.now
-        (Some (arcs_in rows.now.by_head old.now.flags.items)) rounds old.now.history }
+        (Some (arcs_in rows.old.by_head old.now.flags.items)) rounds old.now.history }
+    ensures rows { OnOk result (AreRows graph.now rows.new) }
+    ensures arcs { rows.new.by_head ≡ rows.old.by_head }
     ensures drives { OnOk result (Drives O.stands O.seal O.spent flow.new times.new seal) }
     ensures flags { IfOk result (λ r. IfSome r (λ s. length s.flags.items ≡ length graph.now.ends)) }
     ensures history { IfOk result (λ r. IfSome r (λ s. IsHistory U.answer program.now graph.now
-        (Some (arcs_in rows.now.by_head s.flags.items)) rounds s.history)) }
+        (Some (arcs_in rows.old.by_head s.flags.items)) rounds s.history)) }
 {
     let flags = flags(alloc, graph, bits)?;
     let history = &old.history;
@@ -193,7 +197,7 @@ fn later_views<U: Updater, O: Operator<Position, U, Input = FlowInput, Output = 
     seal: Position,
     program: &Program,
     graph: &Graph,
-    rows: &Rows,
+    rows: &mut Rows,
     first: Stood,
     rounds: u32,
     views: &[u32],
@@ -201,13 +205,13 @@ fn later_views<U: Updater, O: Operator<Position, U, Input = FlowInput, Output = 
 ) -> Result<Option<u64>, NoMemory>
     requires drives { Drives O.stands O.seal O.spent flow.old times.old seal }
     requires checked { IsChecked program.now graph.now }
-    requires rows { AreRows graph.now rows.now }
-    requires along { AreAlong program.now.along graph.now rows.now }
+    requires rows { AreRows graph.now rows.old }
+    requires along { AreAlong program.now.along graph.now rows.old }
     requires some { 1 ≤ rounds }
     requires limit { rounds ≤ 1_000_000 }
     requires flags { length first.flags.items ≡ length graph.now.ends }
     requires history { IsHistory U.answer program.now graph.now
-        (Some (arcs_in rows.now.by_head first.flags.items)) rounds first.history }
+        (Some (arcs_in rows.old.by_head first.flags.items)) rounds first.history }
 {
     let mut seal = seal;
     let mut total = first.work;
@@ -237,20 +241,22 @@ fn first_view<U: Updater, O: Operator<Position, U, Input = FlowInput, Output = M
     seal: Position,
     program: &Program,
     graph: &Graph,
-    rows: &Rows,
+    rows: &mut Rows,
     rounds: u32,
     bits: u32,
     updater: &mut U,
 ) -> Result<Option<Stood>, NoMemory>
     requires drives { Drives O.stands O.seal O.spent flow.old times.old seal }
     requires checked { IsChecked program.now graph.now }
-    requires rows { AreRows graph.now rows.now }
+    requires rows { AreRows graph.now rows.old }
     requires some { 1 ≤ rounds }
     requires limit { rounds ≤ 1_000_000 }
+    ensures rows { OnOk result (AreRows graph.now rows.new) }
+    ensures arcs { rows.new.by_head ≡ rows.old.by_head }
     ensures drives { OnOk result (Drives O.stands O.seal O.spent flow.new times.new seal) }
     ensures flags { IfOk result (λ r. IfSome r (λ s. length s.flags.items ≡ length graph.now.ends)) }
     ensures history { IfOk result (λ r. IfSome r (λ s. IsHistory U.answer program.now graph.now
-        (Some (arcs_in rows.now.by_head s.flags.items)) rounds s.history)) }
+        (Some (arcs_in rows.old.by_head s.flags.items)) rounds s.history)) }
 {
     let flags = flags(alloc, graph, bits)?;
     let limit = Rounds::Within(rounds);
@@ -287,17 +293,17 @@ pub(crate) fn side_by_side<U: Updater, O: Operator<Position, U, Input = FlowInpu
     requires some { 1 ≤ rounds }
     requires limit { rounds ≤ 1_000_000 }
 {
-    let rows = Rows::new(alloc, graph, program.along)?;
+    let mut rows = Rows::new(alloc, graph, program.along)?;
     let mut times = List::new(alloc);
     let least = Position::least();
     let stood = first_view(
-        alloc, flow, &mut times, least, program, graph, &rows, rounds, first, updater,
+        alloc, flow, &mut times, least, program, graph, &mut rows, rounds, first, updater,
     )?;
     let Some(stood) = stood else {
         return Ok(None);
     };
     let seal = take_seal(flow, &times, least, Position(1))?;
     later_views(
-        alloc, flow, &mut times, seal, program, graph, &rows, stood, rounds, later, updater,
+        alloc, flow, &mut times, seal, program, graph, &mut rows, stood, rounds, later, updater,
     )
 }

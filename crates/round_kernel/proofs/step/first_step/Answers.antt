@@ -5,6 +5,7 @@ use Rattle.std.proofs.lemmas.List.Elements.{All-nil}
 use Rattle.graph_model.specs.declared.value.Val.{Val}
 use Rattle.vertex_lang.specs.Arcs.{IsArc}
 use Rattle.vertex_lang.specs.RoundLaws.{length-lone}
+use Rattle.round_kernel.specs.RowLaws.{with-past}
 use Rattle.round_kernel.specs.Sides.{arcs_in}
 use Rattle.round_kernel.proofs.Beginning.{none-history}
 use Rattle.round_kernel.proofs.Ending.{outcome-is}
@@ -13,7 +14,7 @@ use Rattle.round_kernel.proofs.step.first_step.Goals as goal
 pub run_rounds-requires-clause-frame : goal.run_rounds-requires-clause-frame
 run_rounds-requires-clause-frame g c = record {
   checked = c.requires.checked;
-  rows = c.requires.rows;
+  rows = with-past c.args.graph.now c.args.rows.now c.nothing.result c.requires.rows (c.nothing.ensures c.args.graph.now c.args.rows.now.by_head);
   few = c.nodes_are_few.ensures;
   old_size = ap (λ (bs : List Bool). length bs) (c.deref.ensures.value ∙ c.in_ok-none.ensures.items_if_clones_equal (λ y h. h)) ∙ length-replicate _ _ ∙ c.requires.edges;
   new_size = c.requires.edges;
@@ -39,3 +40,6 @@ returns-clause-outcome g c =
     c.outcome.ensures
     ∙ outcome-is g.U.Updater.answer c.args.program.now c.args.graph.now new c.in_ok-run.run'.history c.limit_of.result c.in_ok-run.ensures.run.history c.in_ok-run.ensures.run.few c.in_ok-run.ensures.run.last
     c.args.rounds (sym c.limit_of.ensures) (omega (arith, c.requires.some, c.limit_of.ensures))
+
+pub returns-clause-rows : goal.returns-clause-rows
+returns-clause-rows g c = with-past c.args.graph.now c.args.rows.now c.of.result c.requires.rows (c.of.ensures c.args.graph.now c.args.rows.now.by_head c.in_ok-run.ensures.listed)

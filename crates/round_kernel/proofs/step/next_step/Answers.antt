@@ -5,10 +5,22 @@ use Rattle.vertex_lang.specs.declared.arc.Arc.{Arc}
 use Rattle.vertex_lang.specs.Arcs.{IsArc}
 use Rattle.vertex_lang.specs.RoundLaws.{length-lone}
 use Rattle.round_kernel.specs.Histories.{IsHistory}
+use Rattle.round_kernel.specs.declared.past.Past.{Past}
+use Rattle.round_kernel.specs.Listings.{IsPast}
+use Rattle.round_kernel.specs.RowLaws.{with-past}
 use Rattle.round_kernel.specs.Sides.{arcs_in}
 use Rattle.round_kernel.proofs.Beginning.{turned-told}
 use Rattle.round_kernel.proofs.Ending.{outcome-is}
 use Rattle.round_kernel.proofs.step.next_step.Goals as goal
+
+pub turned-requires-clause-rows : goal.turned-requires-clause-rows
+turned-requires-clause-rows g c =
+    let graph = c.args.graph.now in
+    with-past graph c.args.rows.now c.replace-past.new.dest c.requires.rows (subst (λ (p : Past). IsPast graph c.args.rows.now.by_head p) (sym c.replace-past.ensures.after) (c.nothing.ensures graph c.args.rows.now.by_head))
+
+pub turned-requires-clause-all_turned : goal.turned-requires-clause-all_turned
+turned-requires-clause-all_turned g c =
+    turned-told c.args.program.now.along c.args.graph.now c.args.rows.now c.args.old.now c.args.new.now c.args.turned.now c.as_slice.result.now c.requires.rows.arcs c.requires.old c.requires.along c.requires.all_turned (c.as_slice.ensures ∙ c.in_ok-arcs.ensures.arcs)
 
 pub run_rounds-requires-clause-frame : goal.run_rounds-requires-clause-frame
 run_rounds-requires-clause-frame g c =
@@ -16,14 +28,14 @@ run_rounds-requires-clause-frame g c =
     let old = c.args.old.now in
     record {
       checked = c.requires.checked;
-      rows = c.requires.rows;
+      rows = with-past graph c.args.rows.now c.replace-past.new.dest c.requires.rows (subst (λ (p : Past). IsPast graph c.args.rows.now.by_head p) (sym c.replace-past.ensures.after) (c.nothing.ensures graph c.args.rows.now.by_head));
       few = c.nodes_are_few.ensures;
       old_size = c.requires.old;
       new_size = c.requires.new;
       degree = λ e. c.names_outdeg.ensures.ignores e;
       history = subst (λ (n : ℕ). IsHistory g.U.Updater.answer c.args.program.now graph (Some (arcs_in c.args.rows.now.by_head old)) n c.args.history.now) (sym c.limit_of.ensures) c.requires.history;
-      arcs = subst (λ (xs : List Arc). All (IsArc graph) xs) (sym c.as_slice.ensures) c.in_ok-arcs.ensures.within;
-      turned = λ one. turned-told c.args.program.now.along graph c.args.rows.now old c.args.new.now c.args.turned.now c.as_slice.result.now c.requires.rows.arcs c.requires.old c.requires.along c.requires.all_turned (c.as_slice.ensures ∙ c.in_ok-arcs.ensures.arcs);
+      arcs = subst (λ (xs : List Arc). All (IsArc graph) xs) (sym c.as_slice-2.ensures) c.in_ok-arcs.ensures.within;
+      turned = λ one. turned-told c.args.program.now.along graph c.args.rows.now old c.args.new.now c.args.turned.now c.as_slice-2.result.now c.requires.rows.arcs c.requires.old c.requires.along c.requires.all_turned (c.as_slice-2.ensures ∙ c.in_ok-arcs.ensures.arcs);
     }
 
 pub changes_between-requires-clause-size : goal.changes_between-requires-clause-size
@@ -47,3 +59,6 @@ returns-clause-outcome g c =
     c.outcome.ensures
     ∙ outcome-is g.U.Updater.answer c.args.program.now c.args.graph.now (arcs_in c.args.rows.now.by_head c.args.new.now) c.in_ok-run.run'.history c.limit_of.result c.in_ok-run.ensures.run.history c.in_ok-run.ensures.run.few c.in_ok-run.ensures.run.last
     c.args.rounds (sym c.limit_of.ensures) (omega (arith, c.requires.some, c.limit_of.ensures))
+
+pub returns-clause-rows : goal.returns-clause-rows
+returns-clause-rows g c = with-past c.args.graph.now c.args.rows.now c.of.result c.requires.rows (c.of.ensures c.args.graph.now c.args.rows.now.by_head c.in_ok-run.ensures.listed)

@@ -13,7 +13,7 @@ use Rattle.vertex_lang.specs.Rounds.{value_at}
 use Rattle.round_kernel.specs.declared.live.Link.{Link}
 use Rattle.round_kernel.specs.Codes.{number_at}
 use Rattle.round_kernel.specs.Links.{tail_of, link_of, sent_over, values_over, sent_by_tails}
-use Rattle.round_kernel.specs.Listing.{IsStillOver}
+use Rattle.round_kernel.specs.StillLinks.{IsStillOver}
 use Rattle.round_kernel.specs.Sides.{all_brought, row_of}
 use Rattle.round_kernel.specs.Telling.{InMovers}
 use Rattle.round_kernel.proofs.Brought.{brought-is}

@@ -9,5 +9,5 @@ first_within-requires-clause-edges g c =
 
 pub returns-clause-step : goal.returns-clause-step
 returns-clause-step g c = ok-by _ _ _ _ _ (λ t history outcome change work.
-    first-given g.U.Updater.answer c.args.setting c.requires.setting c.args.view.0 c.deref.result.now (c.deref.ensures.value ∙ c.in_ok-edges.ensures) t history outcome change work)
+    first-given g.U.Updater.answer c.args.setting c.args.rows.now c.requires.setting c.args.view.0 c.deref.result.now (c.deref.ensures.value ∙ c.in_ok-edges.ensures) t history outcome change work)
     c.first_within.result c.first_within.ensures.history c.first_within.ensures.outcome c.first_within.ensures.change c.first_within.ensures.work

@@ -1,4 +1,4 @@
-use Rattle.std.proofs.Common.{◌≡◌, ◌∙◌, ◌<◌, ℕ, Bool, List, Some, length, sym, ap, subst}
+use Rattle.std.proofs.Common.{◌∙◌, ◌<◌, ℕ, Bool, List, Some, length, sym, ap, subst}
 use Rattle.std.specs.Prelude.{All}
 use Rattle.graph_model.specs.declared.number.EdgeNo.{EdgeNo}
 use Rattle.round_kernel.specs.Steps.{TellsAll}
@@ -50,7 +50,7 @@ next_within-requires-clause-all_turned g c =
 
 pub next_within-requires-clause-history : goal.next_within-requires-clause-history
 next_within-requires-clause-history g c =
-    history-before g.U.Updater.answer c.args.setting c.requires.setting c.args.before.0 c.deref-2.result.now c.args.history.now (c.deref-2.ensures.value ∙ c.in_ok-old.ensures) c.requires.history
+    history-before g.U.Updater.answer c.args.setting c.args.rows.now c.requires.setting c.args.before.0 c.deref-2.result.now c.args.history.now (c.deref-2.ensures.value ∙ c.in_ok-old.ensures) c.requires.history
 
 pub returns-clause-step : goal.returns-clause-step
 returns-clause-step g c =
@@ -59,6 +59,6 @@ returns-clause-step g c =
     let v = c.args.view.0 in
     let new = turned-by m u v c.deref.result.now c.in_ok-new.new.items c.as_slice.result.now (c.deref.ensures.value ∙ c.in_ok-old.ensures) (c.as_slice.ensures ∙ c.in_ok-turned.ensures) c.in_ok-new.ensures in
     ok-by _ _ _ _ _ (λ t history outcome change work.
-    later-given g.U.Updater.answer c.args.setting c.requires.setting c.args.view.0 c.deref-3.result.now (c.deref-3.ensures.value ∙ new) t history outcome
+    later-given g.U.Updater.answer c.args.setting c.args.rows.now c.requires.setting c.args.view.0 c.deref-3.result.now (c.deref-3.ensures.value ∙ new) t history outcome
     c.args.before.0 c.deref-2.result.now (c.deref-2.ensures.value ∙ c.in_ok-old.ensures) change work)
     c.next_within.result c.next_within.ensures.history c.next_within.ensures.outcome c.next_within.ensures.change c.next_within.ensures.work
