@@ -66,14 +66,32 @@ module _ (answer : Answer) (p : Program) (graph : GraphData) (all : List Arc) (o
   calm-later k v own arcs = calm-arcs answer p graph all (in_view new) (in_view old) v (suc k) (elim own [ inl s ↦ inr s | inr s ↦ inl s ])
       (All-weaker (λ a. a.head.0 ≡ v → Stays k a.tail.0 ⊎ (Same k a.tail.0 × (in_view old a ≡ in_view new a) × SameDegree a.tail.0)) (λ a. a.head.0 ≡ v → IsCalm answer p graph all (in_view new) (in_view old) a (suc k)) (λ a h. calm-arc k v a h) all arcs)
 
-  pub calm-start : (v : ℕ) → All (λ a. a.head.0 ≡ v → (in_view old a ≡ in_view new a) × SameDegree a.tail.0) all
+  -- nothing is sent along the arc at the start, however many arcs leave its tail
+  abbrev pub StartsSilent : Arc → Type 0
+  StartsSilent a = (m : ℕ) → sent_by p graph a.tail.0 (value_at (lone answer p graph (arcs_in all new) 0) a.tail.0) m a.edge.0 ≡ Nil
+
+  nothing-if : (b : Bool) (w : Val) → w ≡ Nil → (if b then w else Nil) ≡ Nil
+  nothing-if true w e = e
+  nothing-if false w e = refl
+
+  -- an arc along which nothing is sent brings nothing in either view
+  silent-brought : (a : Arc) → StartsSilent a → Agree (brought answer p graph all (Some (in_view new)) a) (brought answer p graph all (Some (in_view old)) a) 0
+  silent-brought a s =
+      nothing-if (in_view new a) (sent_by p graph a.tail.0 (value_at (lone answer p graph (arcs_in all new) 0) a.tail.0) (outdeg (arcs_in all new) a.tail.0) a.edge.0) (s (outdeg (arcs_in all new) a.tail.0))
+      ∙ sym (nothing-if (in_view old a) (sent_by p graph a.tail.0 (value_at (lone answer p graph (arcs_in all old) 0) a.tail.0) (outdeg (arcs_in all old) a.tail.0) a.edge.0)
+      (ap (λ (w : Val). sent_by p graph a.tail.0 w (outdeg (arcs_in all old) a.tail.0) a.edge.0) (sym (starts-agree answer p graph (arcs_in all new) (arcs_in all old) a.tail.0)) ∙ s (outdeg (arcs_in all old) a.tail.0)))
+
+  pub calm-start : (v : ℕ) → All (λ a. a.head.0 ≡ v → StartsSilent a ⊎ ((in_view old a ≡ in_view new a) × SameDegree a.tail.0)) all
       → node_active answer p graph (arcs_in all new) (Some (arcs_in all old)) v 0 ≡ false
   calm-start v arcs = calm-arcs answer p graph all (in_view new) (in_view old) v 0 (starts-agree answer p graph (arcs_in all new) (arcs_in all old) v)
-      (All-weaker (λ a. a.head.0 ≡ v → (in_view old a ≡ in_view new a) × SameDegree a.tail.0) (λ a. a.head.0 ≡ v → IsCalm answer p graph all (in_view new) (in_view old) a 0) (λ a h e. start-arc a (h e)) all arcs) where
-        start-arc : (a : Arc) → (in_view old a ≡ in_view new a) × SameDegree a.tail.0 → IsCalm answer p graph all (in_view new) (in_view old) a 0
-        start-arc a s = elim (cases_Bool (in_view new a)) [
-          | inl t ↦ inl (t, s.0 ∙ t, s.1, starts-agree answer p graph (arcs_in all new) (arcs_in all old) a.tail.0)
-          | inr t ↦ inr (inl (t, s.0 ∙ t))
+      (All-weaker (λ a. a.head.0 ≡ v → StartsSilent a ⊎ ((in_view old a ≡ in_view new a) × SameDegree a.tail.0)) (λ a. a.head.0 ≡ v → IsCalm answer p graph all (in_view new) (in_view old) a 0) (λ a h e. start-arc a (h e)) all arcs) where
+        start-arc : (a : Arc) → StartsSilent a ⊎ ((in_view old a ≡ in_view new a) × SameDegree a.tail.0) → IsCalm answer p graph all (in_view new) (in_view old) a 0
+        start-arc a h = elim h [
+          | inl silent ↦ inr (inr (silent-brought a silent))
+          | inr s ↦ elim (cases_Bool (in_view new a)) [
+            | inl t ↦ inl (t, s.0 ∙ t, s.1, starts-agree answer p graph (arcs_in all new) (arcs_in all old) a.tail.0)
+            | inr t ↦ inr (inl (t, s.0 ∙ t))
+          ]
         ]
 
 -- where there's no view before: a node is not active where its value and its messages stay

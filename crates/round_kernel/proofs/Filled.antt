@@ -2,12 +2,13 @@
 use Rattle.std.proofs.Common.{◌≡◌, ◌∙◌, ◌<◌, ◌≤◌, ◌+◌, ◌-◌, [], suc, sym, ap, subst, refl, ℕ, Bool, true, false, List, Some, None, get_or, arith, inl, inr}
 use Rattle.std.specs.Prelude.{All, ◌⊎◌, ◌||◌}
 use Rattle.std.proofs.lemmas.Bool.{cases_Bool}
+use Rattle.std.proofs.lemmas.List.Elements.{All-weaker}
 use Rattle.std.proofs.lemmas.List.Sorted.{All-permutation, IsPermutation-sym}
 use Rattle.graph_model.specs.declared.value.Val.{Val}
 use Rattle.vertex_lang.specs.declared.arc.Arc.{Arc}
 use Rattle.vertex_lang.specs.declared.program.Program.{Program}
 use Rattle.graph_model.specs.GraphData.{GraphData}
-use Rattle.vertex_lang.specs.Expressions.{Answer}
+use Rattle.vertex_lang.specs.Expressions.{Answer, sent_by, send_words}
 use Rattle.vertex_lang.specs.Rounds.{value_at, lone}
 use Rattle.lone_work.specs.Work.{node_active, node_touched, node_marked, touched_before, lone_in}
 use Rattle.lone_work.specs.WorkLaws.{untouched-value}
@@ -17,11 +18,11 @@ use Rattle.round_kernel.specs.declared.round.Frame.{Frame}
 use Rattle.round_kernel.specs.declared.round.Lists.{Lists}
 use Rattle.round_kernel.specs.Sides.{arcs_in, AreDegrees, IsTurned}
 use Rattle.round_kernel.specs.Histories.{HasChanges, is_changed, is_listed}
-use Rattle.round_kernel.specs.Queues.{waits, StillWait, IsHeard, DegreeAgrees, ValuesAgree, AllHear}
+use Rattle.round_kernel.specs.Queues.{waits, StillWait, IsHeard, IsSilent, DegreeAgrees, ValuesAgree, AllHear}
 use Rattle.round_kernel.specs.Rounds.{old_view}
 use Rattle.round_kernel.specs.Frames.{IsFrame, StandAt, AreCalm, AreShown, count_in, lone_at, new_arcs, old_arcs, was_touched_at, marked_before}
 use Rattle.round_kernel.proofs.Waiting.{clash}
-use Rattle.round_kernel.proofs.Calm.{Stays, calm-first}
+use Rattle.round_kernel.proofs.Calm.{Stays, StartsSilent, calm-first}
 use Rattle.round_kernel.proofs.Filling.{changed-at, listed-at, unchanged-at, heard-still, idle-later, idle-start}
 use Rattle.round_kernel.proofs.Calming.{calm-by}
 
@@ -58,10 +59,23 @@ module _ (answer : Answer) (f : Frame) (r : ℕ) (frame : IsFrame answer f f.lim
   -- ---- at round 0
 
   pub start-calm : (lists : Lists) (od nd : List ℕ) → r ≡ 0 → f.first ≡ false → StandAt answer f r (was_touched_at answer f r) lists → od ≡ lists.old_degrees.items → nd ≡ lists.new_degrees.items
-      → All (λ a. waits lists.queue a.head.0 ≡ true) f.turned.now
+      → (vs : List Val) → vs ≡ lists.new_now.items → (ds : List ℕ) → All (λ a. IsSilent f.by_degree f.program.now f.graph.now ds vs a ⊎ (waits lists.queue a.head.0 ≡ true)) f.turned.now
       → All (λ t. DegreeAgrees f.by_degree od nd t.tail.0 ⊎ AllHear f.rows.now.by_tail lists.queue t.tail.0) f.turned.now
       → AreCalm answer f r lists
-  start-calm lists od nd at0 one u eo en heads readers = calm-by answer f r lists active (λ v low idle marked was. clash (was_touched_at answer f r v) (untouched v) was) where
+  start-calm lists od nd at0 one u eo en vs ev ds heads readers = calm-by answer f r lists active (λ v low idle marked was. clash (was_touched_at answer f r v) (untouched v) was) where
+    starts : vs ≡ lone_at answer f 0
+    starts = ev ∙ u.new_now.values_are ∙ ap (λ n. lone_at answer f n) at0
+
+    -- without degrees a message is the same however many arcs leave its tail
+    silent-start : (a : Arc) → IsSilent f.by_degree f.program.now f.graph.now ds vs a → StartsSilent answer f.program.now f.graph.now f.rows.now.by_head f.old.now f.new.now a
+    silent-start a s m =
+        frame.degree s.0 (send_words f.graph.now a.tail.0 (value_at (lone_at answer f 0) a.tail.0) 0 a.edge.0) m (get_or ds a.tail.0 0)
+        ∙ ap (λ (xs : List Val). sent_by f.program.now f.graph.now a.tail.0 (value_at xs a.tail.0) (get_or ds a.tail.0 0) a.edge.0) (sym starts) ∙ s.1
+
+    silent-heads : All (λ a. StartsSilent answer f.program.now f.graph.now f.rows.now.by_head f.old.now f.new.now a ⊎ (waits lists.queue a.head.0 ≡ true)) f.turned.now
+    silent-heads = All-weaker (λ a. IsSilent f.by_degree f.program.now f.graph.now ds vs a ⊎ (waits lists.queue a.head.0 ≡ true)) (λ a. StartsSilent answer f.program.now f.graph.now f.rows.now.by_head f.old.now f.new.now a ⊎ (waits lists.queue a.head.0 ≡ true))
+        (λ a h. elim h [ inl s ↦ inl (silent-start a s) | inr w ↦ inr w ]) f.turned.now heads
+
     active : (v : ℕ) → v < count_in f → waits lists.queue v ≡ false → node_active answer f.program.now f.graph.now (new_arcs f) (old_arcs f) v r ≡ false
     active v low idle =
         subst (λ (b : Bool). node_active answer f.program.now f.graph.now (new_arcs f) (old_view b f.rows.now.by_head f.old.now) v r ≡ false) (sym one)
@@ -69,7 +83,7 @@ module _ (answer : Answer) (f : Frame) (r : ℕ) (frame : IsFrame answer f f.lim
         (idle-start answer f.program.now f.graph.now f.rows.now.by_head f.rows.now.by_tail f.old.now f.new.now f.by_degree od nd lists.watched.items lists.queue frame.rows.same frame.rows.arcs frame.degree
         (degrees-at f.program.now f.graph.now (arcs_in f.rows.now.by_head f.old.now) lists.old_degrees.items od eo (u.old_now one).degrees_are)
         (degrees-at f.program.now f.graph.now (new_arcs f) lists.new_degrees.items nd en u.new_now.degrees_are)
-        (u.watched_are one) f.turned.now (frame.turned one) heads readers v idle))
+        (u.watched_are one) f.turned.now (frame.turned one) silent-heads readers v idle))
 
     untouched : (v : ℕ) → was_touched_at answer f r v ≡ false
     untouched v =

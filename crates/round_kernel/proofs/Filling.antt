@@ -23,7 +23,7 @@ use Rattle.round_kernel.specs.Sides.{in_view, arcs_in, AreDegrees, IsTurned}
 use Rattle.round_kernel.specs.Histories.{is_changed, is_listed, HasChanges}
 use Rattle.round_kernel.specs.Queues.{waits, StillWait, DegreeAgrees, ValuesAgree, AllHear, IsHeard}
 use Rattle.round_kernel.proofs.Waiting.{clash}
-use Rattle.round_kernel.proofs.Calm.{Stays, Same, SameDegree, calm-later, calm-start, same-degree, same-or-turned}
+use Rattle.round_kernel.proofs.Calm.{Stays, Same, SameDegree, StartsSilent, calm-later, calm-start, same-degree, same-or-turned}
 
 -- what holds at each change holds at each changed node
 pub changed-at : (P : ℕ → Type 0) (u : ℕ) (cs : List Change) → All (λ c. P c.node.0) cs → is_changed u cs ≡ true → P u
@@ -61,6 +61,13 @@ heard-still first arcs old new by od nd w on ob nn nb q q' u s h = record {
   turned = elim h.turned [ inl a ↦ inl a | inr a ↦ inr (All-weaker (λ (x : Arc). x.tail.0 ≡ u → IsTurned old new x → waits q x.head.0 ≡ true) (λ (x : Arc). x.tail.0 ≡ u → IsTurned old new x → waits q' x.head.0 ≡ true) (λ x g e t. s.still x.head.0 (g e t)) arcs a) ];
 }
 
+-- two truths are the same, or differ
+same-bits : (a b : Bool) → (a ≡ b) ⊎ (a ≡ b → ⊥)
+same-bits true true = inl refl
+same-bits true false = inr (λ e. absurd cc)
+same-bits false true = inr (λ e. absurd cc)
+same-bits false false = inl refl
+
 -- no arc from a node is turned, or one is
 any-turned : (old new : List Bool) (u : ℕ) (all : List Arc) → All (λ a. a.tail.0 ≡ u → in_view old a ≡ in_view new a) all ⊎ ((i : ℕ) × (i < length all) × ((d : Arc) → (get_or all i d).tail.0 ≡ u) × ((d : Arc) → IsTurned old new (get_or all i d)))
 any-turned old new u [] = inl (λ i d low. absurd (omega arith))
@@ -73,12 +80,7 @@ any-turned old new u (a ∷ all) = elim (any-turned old new u all) [
       | inr ne ↦ inr (zero, omega arith, λ d. eqb-true a.tail.0 u at, λ d. ne)
     ]
   ]
-] where
-  same-bits : (a b : Bool) → (a ≡ b) ⊎ (a ≡ b → ⊥)
-  same-bits true true = inl refl
-  same-bits true false = inr (λ e. absurd cc)
-  same-bits false true = inr (λ e. absurd cc)
-  same-bits false false = inl refl
+]
 
 module _ (answer : Answer) (p : Program) (graph : GraphData) (all tails : List Arc) (old new : List Bool) (by : Bool) (od nd : List ℕ) (watched : List Bool) (q : Queue)
     (perm : IsPermutation all tails) (arcs : All (IsArc graph) all) (degree : by ≡ false → IgnoresOutdeg p.send)
@@ -141,14 +143,19 @@ module _ (answer : Answer) (p : Program) (graph : GraphData) (all tails : List A
     pub idle-later : (v : ℕ) → v < length graph.ids → waits q v ≡ false → node_active answer p graph (arcs_in all new) (Some (arcs_in all old)) v (suc k) ≡ false
     idle-later v low idle = calm-later answer p graph all old new k v (own-calm v low idle) (λ i d within at. arc-calm v i d within idle at)
 
-  -- and not in round 0, where all heads of turned arcs wait
-  pub idle-start : (turned : List Arc) → All (λ a. IsTurned old new a → Contains turned a) all → All (λ a. waits q a.head.0 ≡ true) turned → All (λ t. DegreeAgrees by od nd t.tail.0 ⊎ AllHear tails q t.tail.0) turned
+  -- and not in round 0, where the heads of all turned arcs wait along which something is sent
+  pub idle-start : (turned : List Arc) → All (λ a. IsTurned old new a → Contains turned a) all → All (λ a. StartsSilent answer p graph all old new a ⊎ (waits q a.head.0 ≡ true)) turned → All (λ t. DegreeAgrees by od nd t.tail.0 ⊎ AllHear tails q t.tail.0) turned
       → (v : ℕ) → waits q v ≡ false → node_active answer p graph (arcs_in all new) (Some (arcs_in all old)) v 0 ≡ false
   idle-start turned told heads readers v idle = calm-start answer p graph all old new v (λ i d low at.
       let a = get_or all i d in
       let arc : IsArc graph a = arcs i d low in
-      let still : in_view old a ≡ in_view new a = same-or-turned (in_view old a) (in_view new a) (λ t. clash (waits q v) idle (subst (λ n. waits q n ≡ true) at (All-contains (λ (b : Arc). waits q b.head.0 ≡ true) turned a heads (told i d low t)))) in
-      (still, degree-at a i d low at refl arc)) where
+      elim (same-bits (in_view old a) (in_view new a)) [
+        | inl still ↦ inr (still, degree-at a i d low at refl arc)
+        | inr t ↦ elim (All-contains (λ (b : Arc). StartsSilent answer p graph all old new b ⊎ (waits q b.head.0 ≡ true)) turned a heads (told i d low t)) [
+          | inl silent ↦ inl silent
+          | inr w ↦ absurd (clash (waits q v) idle (subst (λ n. waits q n ≡ true) at w))
+        ]
+      ]) where
         degree-at : (a : Arc) (i : ℕ) (d : Arc) → i < length all → (get_or all i d).head.0 ≡ v → a ≡ get_or all i d → IsArc graph a → SameDegree answer p graph all old new a.tail.0
         degree-at a i d low at same arc = elim (any-turned old new a.tail.0 all) [
           | inl none ↦ inl (same-degree old new a.tail.0 all none)

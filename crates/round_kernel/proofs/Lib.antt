@@ -1,3 +1,5 @@
+pub mod Leaving
+pub mod Hearing
 pub mod Leftovers
 pub mod Brought
 pub mod Visits
@@ -35,3 +37,4 @@ pub mod Renewing
 pub mod Proper
 pub mod Turning
 pub mod Listed
+pub mod Sorting

@@ -159,6 +159,10 @@ module _ (arcs : List Arc) (i : ℕ) (d : Arc) (low : i < length arcs) (q q' : Q
   pub heads-more : StillWait q q' → All (λ a. waits q a.head.0 ≡ true) (take i arcs) → waits q' (get_or arcs i d).head.0 ≡ true → All (λ a. waits q' a.head.0 ≡ true) (take (i + 1) arcs)
   heads-more s all here = more-of (λ (a : Arc). waits q a.head.0 ≡ true) (λ (a : Arc). waits q' a.head.0 ≡ true) arcs i d low (λ a h. s.still a.head.0 h) all here
 
+  pub heads-or-more : (P : Arc → Type 0) → StillWait q q' → All (λ a. P a ⊎ (waits q a.head.0 ≡ true)) (take i arcs) → P (get_or arcs i d) ⊎ (waits q' (get_or arcs i d).head.0 ≡ true) → All (λ a. P a ⊎ (waits q' a.head.0 ≡ true)) (take (i + 1) arcs)
+  heads-or-more P s all here = more-of (λ (a : Arc). P a ⊎ (waits q a.head.0 ≡ true)) (λ (a : Arc). P a ⊎ (waits q' a.head.0 ≡ true)) arcs i d low
+      (λ a h. elim h [ inl e ↦ inl e | inr w ↦ inr (s.still a.head.0 w) ]) all here
+
 -- a row is heard where all its heads wait
 pub row-hears : (arcs row : List Arc) (u : ℕ) (q : Queue) → row ≡ filter (λ a. a.tail.0 == u) arcs → All (λ a. waits q a.head.0 ≡ true) row → AllHear arcs q u
 row-hears arcs row u q e all = filtered arcs (subst (λ (xs : List Arc). All (λ a. waits q a.head.0 ≡ true) xs) e all) where

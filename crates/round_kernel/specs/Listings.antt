@@ -1,5 +1,5 @@
 -- What is kept of the arcs of a view from a step to the next.
-use Rattle.std.specs.Prelude.{⊤, ℕ, Bool, List, length}
+use Rattle.std.specs.Prelude.{⊤, ℕ, Bool, List, length, IfSome}
 use Rattle.graph_model.specs.declared.number.NodeNo.{NodeNo}
 use Rattle.graph_model.specs.GraphData.{GraphData}
 use Rattle.vertex_lang.specs.declared.arc.Arc.{Arc}
@@ -8,6 +8,7 @@ use Rattle.round_kernel.specs.declared.live.Link.{Link}
 use Rattle.round_kernel.specs.declared.past.Listed.{Listed}
 use Rattle.round_kernel.specs.declared.past.Listed.TheVariants as listings
 use Rattle.round_kernel.specs.declared.past.Past.{Past}
+use Rattle.round_kernel.specs.Counts.{AreCounted}
 use Rattle.round_kernel.specs.Links.{tail_of, link_of}
 use Rattle.round_kernel.specs.Lives.{AreLive}
 use Rattle.round_kernel.specs.Numbers.{AreProper}
@@ -27,6 +28,7 @@ IsListed graph all edges listings.Nothing = ⊤
 IsListed graph all edges (listings.Tails live) = AreTails graph all edges live
 IsListed graph all edges (listings.Links column live) = AreLinks graph all edges column live
 
--- and the view is the one whose edges are told
-abbrev pub IsPast : GraphData → List Arc → Past → Type 0
-IsPast graph all past = IsListed graph all past.edges.items past.listed
+-- and the view is the one whose edges are told; and so many of its arcs leave each node
+pub record IsPast (graph : GraphData) (all : List Arc) (past : Past) : Type 0 where
+  pub listed : IsListed graph all past.edges.items past.listed
+  pub counted : IfSome past.degrees (λ d. AreCounted graph all past.edges.items d.items)

@@ -11,6 +11,7 @@
 
 mod aids;
 mod chained;
+mod degrees;
 mod feed;
 mod history;
 mod live;
@@ -21,6 +22,7 @@ mod queue;
 mod round;
 mod rows;
 mod sent;
+mod sorted;
 mod span;
 mod step;
 mod tails;

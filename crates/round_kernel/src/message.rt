@@ -86,6 +86,17 @@ fn send_along(program: &Program, graph: &Graph, side: &Side<'_>, arc: Arc) -> Va
     )
 }
 
+/// Whether none is sent along an arc, whether or not its edge is in the view.
+pub(crate) fn sends_nothing(program: &Program, graph: &Graph, side: &Side<'_>, arc: Arc) -> bool
+    requires checked { IsChecked program.now graph.now }
+    requires arc { IsArc graph.now arc }
+    requires sized { IsSized graph.now side.now.edges.now side.now.degrees.now side.now.values.now }
+    requires sent { AreSent side.now.alike program.now graph.now side.now.degrees.now side.now.values.now side.now.sent.now }
+    ensures { IsTrue result → sent_by program.now graph.now arc.tail.0 (value_at side.now.values.now arc.tail.0) (get_or side.now.degrees.now arc.tail.0 0) arc.edge.0 ≡ Nil }
+{
+    !differs(send_along(program, graph, side, arc), Val::Nil)
+}
+
 /// The message, or the value, that is kept for a node.
 pub(crate) fn kept(sent: &[i64], node: usize) -> Val
     requires { node < length sent.now }

@@ -4,6 +4,7 @@ ghost use Rattle.std.specs.Prelude.{◌≡◌, ◌<◌, Bool, List, true, false,
 ghost use Rattle.graph_model.specs.GraphData.{GraphData};
 ghost use Rattle.vertex_lang.specs.declared.arc.Arc.{Arc};
 ghost use Rattle.vertex_lang.specs.Arcs.{IsArc};
+ghost use Rattle.round_kernel.specs.Counts.{AreCounted};
 ghost use Rattle.round_kernel.specs.Listings.{AreLinks, AreTails, IsListed, IsPast};
 ghost use Rattle.round_kernel.specs.RowLists.{AreRows};
 ghost use Rattle.round_kernel.specs.Sides.{IsTurned};
@@ -26,11 +27,12 @@ pub(crate) enum Listed {
     Links(u32, Live<Link>),
 }
 
-/// The arcs of the view that was stepped last, and which edges are in it.
+/// The arcs of the view that was stepped last, and which edges are in it; and how many arcs leave each node, if that is kept.
 #[derive(Debug, Drop)]
 pub(crate) struct Past {
     pub(crate) edges: Vec<bool>,
     pub(crate) listed: Listed,
+    pub(crate) degrees: Option<Vec<u64>>,
 }
 
 impl Listed {
@@ -63,12 +65,19 @@ impl Past {
         Past {
             edges: Vec::new(alloc),
             listed: Listed::Nothing,
+            degrees: None,
         }
     }
 
     /// Of a view with these edges. Where memory is wanted nothing is kept.
-    pub(crate) fn of(alloc: Global, edges: &[bool], listed: Listed) -> Past
-        ensures { (graph : GraphData) (arcs : List Arc) → IsListed graph arcs edges.now listed → IsPast graph arcs result }
+    pub(crate) fn of(
+        alloc: Global,
+        edges: &[bool],
+        listed: Listed,
+        degrees: Option<Vec<u64>>,
+    ) -> Past
+        ensures { (graph : GraphData) (arcs : List Arc) → IsListed graph arcs edges.now listed
+            → IfSome degrees (λ d. AreCounted graph arcs edges.now d.items) → IsPast graph arcs result }
     {
         match listed {
             Listed::Nothing => Past::nothing(alloc),
@@ -76,6 +85,7 @@ impl Past {
                 Ok(flags) => Past {
                     edges: flags,
                     listed: kept,
+                    degrees,
                 },
                 Err(_) => Past::nothing(alloc),
             },
@@ -83,7 +93,7 @@ impl Past {
     }
 
     /// The arcs of another view, where those of this one are kept, and the arcs of all edges that are in one of the two
-    /// alone are given. The error is want of memory.
+    /// alone are given; and how many arcs leave each node in this one. The error is want of memory.
     pub(crate) fn turned(
         self,
         alloc: Global,
@@ -92,30 +102,35 @@ impl Past {
         old: &[bool],
         new: &[bool],
         turned: &[Arc],
-    ) -> Result<Listed, NoMemory>
+    ) -> Result<(Listed, Option<Vec<u64>>), NoMemory>
         requires rows { AreRows graph.now rows.now }
         requires new { length new.now ≡ length graph.now.ends }
         requires past { IsPast graph.now rows.now.by_head self }
         requires turned { All (IsArc graph.now) turned.now }
         requires all_turned { All (λ a. IsTurned old.now new.now a → Contains turned.now a) rows.now.by_head }
-        ensures { IfOk result (IsListed graph.now rows.now.by_head new.now) }
+        ensures listed { IfOk result (λ r. IsListed graph.now rows.now.by_head new.now r.0) }
+        ensures counted { IfOk result (λ r. IfSome r.1 (λ d. AreCounted graph.now rows.now.by_head old.now d.items)) }
     {
-        let Past { edges, listed } = self;
+        let Past {
+            edges,
+            listed,
+            degrees,
+        } = self;
         if !is_same(&edges, old) {
-            return Ok(Listed::Nothing);
+            return Ok((Listed::Nothing, None));
         }
         let heads = heads_of(alloc, graph.node_count() as usize, turned)?;
         match listed {
-            Listed::Nothing => Ok(Listed::Nothing),
+            Listed::Nothing => Ok((Listed::Nothing, degrees)),
             Listed::Tails(tails) => {
                 let mut live = tails;
                 renew_tails(&mut live, graph, rows, new, &heads);
-                Ok(Listed::Tails(live))
+                Ok((Listed::Tails(live), degrees))
             }
             Listed::Links(column, links) => {
                 let mut live = links;
                 renew_links(&mut live, graph, rows, new, column, &heads);
-                Ok(Listed::Links(column, live))
+                Ok((Listed::Links(column, live), degrees))
             }
         }
     }

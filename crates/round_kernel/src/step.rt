@@ -6,6 +6,7 @@ ghost use Rattle.vertex_lang.specs.Lone.{number_of, answer_of};
 ghost use Rattle.vertex_lang.specs.Rounds.{lone};
 ghost use Rattle.lone_work.specs.Work.{work};
 ghost use Rattle.round_kernel.specs.Sides.{arcs_in};
+ghost use Rattle.round_kernel.specs.Counts.{AreBoth};
 ghost use Rattle.round_kernel.specs.Histories.{IsHistory, HasChanges, changes_from, all_from};
 ghost use Rattle.round_kernel.specs.Listings.{IsListed};
 ghost use Rattle.round_kernel.specs.RowLists.{AreRows};
@@ -16,10 +17,12 @@ ghost use Rattle.round_kernel.specs.Steps.{HasRounds, IsRun, outcome_of, TellsAl
 
 use crate::aids::Aids;
 use crate::chained::ChainedLists;
+use crate::degrees::Degrees;
 use crate::history::{Change, History};
 use crate::past::{Listed, Past};
 use crate::round::{Frame, Lists, go_on, run_round};
 use crate::rows::Rows;
+use crate::sorted::in_node_order;
 use crate::tally::Kept;
 use crate::values::{all_changes, changes_between};
 use crate::visit::Made;
@@ -68,7 +71,9 @@ pub fn first_step<U: Updater>(
     nodes_are_few(graph);
     let nothing = History::new(alloc);
     let none = vec![in alloc; false; edges.len()]?;
+    let by_degree = names_outdeg(&program.send);
     rows.past = Past::nothing(alloc);
+    let degrees = Degrees::counted(alloc, by_degree, graph, rows, &none, edges)?;
     let frame = Frame {
         program,
         graph,
@@ -76,14 +81,15 @@ pub fn first_step<U: Updater>(
         first: true,
         old: &none,
         new: edges,
-        by_degree: names_outdeg(&program.send),
+        by_degree,
         history: &nothing,
         turned: &[],
         limit: limit_of(rounds),
     };
-    let run = run_rounds(alloc, frame, Listed::Nothing, updater)?;
+    let counted = degrees.kept(alloc, by_degree)?;
+    let run = run_rounds(alloc, frame, degrees, Listed::Nothing, updater)?;
     let change = all_changes(alloc, &run.lists.new_now)?;
-    rows.past = Past::of(alloc, edges, run.listed);
+    rows.past = Past::of(alloc, edges, run.listed, counted);
     Ok(Stepped {
         outcome: outcome(&run.history, rounds),
         history: run.history,
@@ -126,8 +132,19 @@ pub fn next_step<U: Updater>(
 {
     nodes_are_few(graph);
     let arcs = arcs_of(alloc, graph, program.along, turned)?;
+    let by_degree = names_outdeg(&program.send);
     let past = mem::replace(&mut rows.past, Past::nothing(alloc));
-    let listed = past.turned(alloc, graph, rows, old, new, arcs.as_slice())?;
+    let (listed, known) = past.turned(alloc, graph, rows, old, new, arcs.as_slice())?;
+    let degrees = Degrees::turned(
+        alloc,
+        by_degree,
+        graph,
+        rows,
+        known,
+        old,
+        new,
+        arcs.as_slice(),
+    )?;
     let frame = Frame {
         program,
         graph,
@@ -135,14 +152,15 @@ pub fn next_step<U: Updater>(
         first: false,
         old,
         new,
-        by_degree: names_outdeg(&program.send),
+        by_degree,
         history,
         turned: arcs.as_slice(),
         limit: limit_of(rounds),
     };
-    let run = run_rounds(alloc, frame, listed, updater)?;
+    let counted = degrees.kept(alloc, by_degree)?;
+    let run = run_rounds(alloc, frame, degrees, listed, updater)?;
     let change = changes_between(alloc, &run.lists.old_now, &run.lists.new_now)?;
-    rows.past = Past::of(alloc, new, run.listed);
+    rows.past = Past::of(alloc, new, run.listed, counted);
     Ok(Stepped {
         outcome: outcome(&run.history, rounds),
         history: run.history,
@@ -164,17 +182,19 @@ struct Run {
 fn run_rounds<U: Updater>(
     alloc: Global,
     frame: Frame<'_>,
+    degrees: Degrees,
     listed: Listed,
     updater: &mut U,
 ) -> Result<Run, NoMemory>
     requires frame { IsFrame U.answer frame frame.limit }
     requires limit { frame.limit ≤ 1_000_000 }
+    requires degrees { AreBoth frame.by_degree frame.graph.now frame.rows.now.by_head frame.old.now frame.new.now degrees }
     requires listed { IsListed frame.graph.now frame.rows.now.by_head frame.new.now listed }
     ensures listed { IfOk result (λ run. IsListed frame.entry.graph.now frame.entry.rows.now.by_head frame.entry.new.now run.listed) }
     ensures run { IfOk result (IsRun U.answer frame.entry) }
     ensures calls { IfOk result (λ run. U.calls updater.new ≡ U.calls updater.old + run.work) }
 {
-    let mut lists = Lists::new(alloc, frame, updater)?;
+    let mut lists = Lists::new(alloc, frame, degrees, updater)?;
     let mut kept = vec![in alloc; Kept::new(); frame.graph.node_count() as usize]?;
     let mut aids = Aids::new(alloc, frame, &lists, listed, updater)?;
     let mut history = History::beside(alloc, frame.history)?;
@@ -265,6 +285,7 @@ fn run_one<U: Updater>(
         changed,
         updater,
     );
+    in_node_order(frame, round, lists, &aids.told, &mut made.changes, updater)?;
     add_round(history, round, made)?;
     Ok(work)
 }

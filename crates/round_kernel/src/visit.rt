@@ -24,26 +24,26 @@ use crate::told::Movers;
 use graph_model::{Graph, NodeNo, Val};
 use std::alloc::Global;
 use surge_outside::{List, NoMemory};
-use vertex_lang::{Program, Updater};
+use vertex_lang::{Expr, Program, Updater};
 
 /// A node in a round, and what is known of it.
 #[derive(Clone, Copy)]
 pub(crate) struct Spot {
     pub(crate) node: NodeNo,
     pub(crate) round: u32,
-    pub(crate) start: Val,
     /// Whether there is no view before.
     pub(crate) first: bool,
     /// Whether its input changed in this round of the view before. At round 0 it is not looked at.
     pub(crate) marked: bool,
 }
 
-/// The round in both views, and the values of the round before it in the new one.
+/// The round in both views, the values of the round before it in the new one, and those with which the nodes start.
 #[derive(Clone, Copy)]
 pub(crate) struct Sides<'a> {
     pub(crate) old: Side<'a>,
     pub(crate) new: Side<'a>,
     pub(crate) before: &'a [Val],
+    pub(crate) starts: &'a [Val],
 }
 
 /// What a round of the new view gives: the nodes whose input changed in it, and what changes to the next round.
@@ -90,7 +90,8 @@ pub(crate) fn visit<U: Updater>(
     requires checked { IsChecked program.now graph.now }
     requires rows { AreRows graph.now rows.now }
     requires node { spot.node.0 < length graph.now.ids }
-    requires start { spot.start ≡ start_of program.now graph.now spot.node.0 }
+    requires start { value_at sides.now.starts.now spot.node.0 ≡ start_of program.now graph.now spot.node.0 }
+    requires starts { length sides.now.starts.now ≡ length graph.now.ids }
     requires new { IsRound U.answer program.now graph.now rows.now.by_head sides.now.new.edges.now sides.now.new.degrees.now sides.now.new.values.now spot.round }
     requires before { IsRound U.answer program.now graph.now rows.now.by_head sides.now.new.edges.now sides.now.new.degrees.now sides.now.before.now (spot.round - 1) }
     requires old { spot.first ≡ false → IsRound U.answer program.now graph.now rows.now.by_head sides.now.old.edges.now sides.now.old.degrees.now sides.now.old.values.now spot.round }
@@ -141,7 +142,8 @@ fn visit_touched<U: Updater>(
     requires checked { IsChecked program.now graph.now }
     requires rows { AreRows graph.now rows.now }
     requires node { spot.node.0 < length graph.now.ids }
-    requires start { spot.start ≡ start_of program.now graph.now spot.node.0 }
+    requires start { value_at sides.now.starts.now spot.node.0 ≡ start_of program.now graph.now spot.node.0 }
+    requires starts { length sides.now.starts.now ≡ length graph.now.ids }
     requires new { IsRound U.answer program.now graph.now rows.now.by_head sides.now.new.edges.now sides.now.new.degrees.now sides.now.new.values.now spot.round }
     requires before { IsRound U.answer program.now graph.now rows.now.by_head sides.now.new.edges.now sides.now.new.degrees.now sides.now.before.now (spot.round - 1) }
     requires marked { 0 < spot.round → spot.marked ≡ node_marked U.answer program.now graph.now (old_view spot.first rows.now.by_head sides.now.old.edges.now) spot.node.0 spot.round }
@@ -180,7 +182,8 @@ fn visit_marked<U: Updater>(
     requires checked { IsChecked program.now graph.now }
     requires rows { AreRows graph.now rows.now }
     requires node { spot.node.0 < length graph.now.ids }
-    requires start { spot.start ≡ start_of program.now graph.now spot.node.0 }
+    requires start { value_at sides.now.starts.now spot.node.0 ≡ start_of program.now graph.now spot.node.0 }
+    requires starts { length sides.now.starts.now ≡ length graph.now.ids }
     requires new { IsRound U.answer program.now graph.now rows.now.by_head sides.now.new.edges.now sides.now.new.degrees.now sides.now.new.values.now spot.round }
     requires marked { node_marked U.answer program.now graph.now (Some (arcs_in rows.now.by_head sides.now.new.edges.now)) spot.node.0 spot.round ≡ true }
     requires touched { node_touched U.answer program.now graph.now (arcs_in rows.now.by_head sides.now.new.edges.now) (old_view spot.first rows.now.by_head sides.now.old.edges.now) spot.node.0 spot.round ≡ true }
@@ -198,7 +201,16 @@ fn visit_marked<U: Updater>(
     );
     *kept = tally.kept();
     push_mark(&mut made.marks, true, spot.node)?;
-    let value = evaluate(program, graph, rows, &sides.new, spot, tally, updater);
+    let value = evaluate(
+        program,
+        graph,
+        rows,
+        &sides.new,
+        sides.starts,
+        spot,
+        tally,
+        updater,
+    );
     let changed = is_other(value, sides.new.values[spot.node.0 as usize]);
     push_change(&mut made.changes, changed, spot.node, value)?;
     Ok(1)
@@ -222,7 +234,8 @@ fn visit_again<U: Updater>(
     requires checked { IsChecked program.now graph.now }
     requires rows { AreRows graph.now rows.now }
     requires node { spot.node.0 < length graph.now.ids }
-    requires start { spot.start ≡ start_of program.now graph.now spot.node.0 }
+    requires start { value_at sides.now.starts.now spot.node.0 ≡ start_of program.now graph.now spot.node.0 }
+    requires starts { length sides.now.starts.now ≡ length graph.now.ids }
     requires new { IsRound U.answer program.now graph.now rows.now.by_head sides.now.new.edges.now sides.now.new.degrees.now sides.now.new.values.now spot.round }
     requires before { IsRound U.answer program.now graph.now rows.now.by_head sides.now.new.edges.now sides.now.new.degrees.now sides.now.before.now (spot.round - 1) }
     requires marked { 0 < spot.round → spot.marked ≡ node_marked U.answer program.now graph.now (old_view spot.first rows.now.by_head sides.now.old.edges.now) spot.node.0 spot.round }
@@ -249,7 +262,16 @@ fn visit_again<U: Updater>(
     if !either(marked, spot.marked) {
         return Ok(0);
     }
-    let value = evaluate(program, graph, rows, &sides.new, spot, tally, updater);
+    let value = evaluate(
+        program,
+        graph,
+        rows,
+        &sides.new,
+        sides.starts,
+        spot,
+        tally,
+        updater,
+    );
     let changed = is_other(value, sides.new.values[spot.node.0 as usize]);
     push_change(&mut made.changes, changed, spot.node, value)?;
     Ok(1)
@@ -432,6 +454,7 @@ fn evaluate<U: Updater>(
     graph: &Graph,
     _rows: &Rows,
     side: &Side<'_>,
+    starts: &[Val],
     spot: Spot,
     tally: Tally,
     updater: &mut U,
@@ -439,7 +462,8 @@ fn evaluate<U: Updater>(
     requires checked { IsChecked program.now graph.now }
     requires rows { AreRows graph.now _rows.now }
     requires node { spot.node.0 < length graph.now.ids }
-    requires start { spot.start ≡ start_of program.now graph.now spot.node.0 }
+    requires start { value_at starts.now spot.node.0 ≡ start_of program.now graph.now spot.node.0 }
+    requires starts { length starts.now ≡ length graph.now.ids }
     requires new { IsRound U.answer program.now graph.now _rows.now.by_head side.now.edges.now side.now.degrees.now side.now.values.now spot.round }
     requires tally { tally ≡ tally_of program.now.gather (got_values U.answer program.now graph.now (arcs_in _rows.now.by_head side.now.edges.now) spot.node.0 spot.round) }
     requires sent { AreSent side.now.alike program.now graph.now side.now.degrees.now side.now.values.now side.now.sent.now }
@@ -449,7 +473,20 @@ fn evaluate<U: Updater>(
     let value = side.values[spot.node.0 as usize];
     let gathered = tally.gathered(program.gather);
     let id = graph.id(spot.node);
-    updater.update(program, id, spot.start, value, gathered, tally.count)
+    let start = start_at(program, graph, starts, spot.node);
+    updater.update(program, id, start, value, gathered, tally.count)
+}
+
+// The value with which a node starts. Where it is a number in the program, no list is read.
+fn start_at(program: &Program, _graph: &Graph, starts: &[Val], node: NodeNo) -> Val
+    requires start { value_at starts.now node.0 ≡ start_of program.now _graph.now node.0 }
+    requires node { node.0 < length starts.now }
+    ensures { result ≡ start_of program.now _graph.now node.0 }
+{
+    match &program.start {
+        Expr::Number(number) => Val::Num(*number),
+        _ => starts[node.0 as usize],
+    }
 }
 
 // Adds a node to the marks where it has one.
@@ -462,8 +499,8 @@ fn push_mark(marks: &mut List<NodeNo>, marked: bool, node: NodeNo) -> Result<(),
     Ok(())
 }
 
-// Adds a change where there is one.
-fn push_change(
+/// Adds a change where there is one.
+pub(crate) fn push_change(
     changes: &mut List<Change>,
     changed: bool,
     node: NodeNo,

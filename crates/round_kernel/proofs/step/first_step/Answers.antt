@@ -11,14 +11,17 @@ use Rattle.round_kernel.proofs.Beginning.{none-history}
 use Rattle.round_kernel.proofs.Ending.{outcome-is}
 use Rattle.round_kernel.proofs.step.first_step.Goals as goal
 
+pub counted-requires-clause-rows : goal.counted-requires-clause-rows
+counted-requires-clause-rows g c = with-past c.args.graph.now c.args.rows.now c.nothing.result c.requires.rows (c.nothing.ensures c.args.graph.now c.args.rows.now.by_head)
+
 pub run_rounds-requires-clause-frame : goal.run_rounds-requires-clause-frame
 run_rounds-requires-clause-frame g c = record {
   checked = c.requires.checked;
   rows = with-past c.args.graph.now c.args.rows.now c.nothing.result c.requires.rows (c.nothing.ensures c.args.graph.now c.args.rows.now.by_head);
   few = c.nodes_are_few.ensures;
-  old_size = ap (λ (bs : List Bool). length bs) (c.deref.ensures.value ∙ c.in_ok-none.ensures.items_if_clones_equal (λ y h. h)) ∙ length-replicate _ _ ∙ c.requires.edges;
+  old_size = ap (λ (bs : List Bool). length bs) (c.deref-2.ensures.value ∙ c.in_ok-none.ensures.items_if_clones_equal (λ y h. h)) ∙ length-replicate _ _ ∙ c.requires.edges;
   new_size = c.requires.edges;
-  degree = λ e. c.names_outdeg.ensures.ignores e;
+  degree = λ e. c.names_outdeg-by_degree.ensures.ignores e;
   history = none-history g.U.Updater.answer c.args.program.now c.args.graph.now _ c.new-nothing.result c.new-nothing.ensures.changes c.new-nothing.ensures.marks c.new-nothing.ensures.starts;
   arcs = All-nil (IsArc c.args.graph.now);
   turned = λ e. absurd (true≢false e);
@@ -29,7 +32,7 @@ all_changes-requires g c =
     let new = arcs_in c.args.rows.now.by_head c.args.edges.now in
     omega (
       arith,
-      ap (λ (vs : List Val). length vs) (c.deref-2.ensures.value ∙ c.in_ok-run.ensures.run.new_values),
+      ap (λ (vs : List Val). length vs) (c.deref-3.ensures.value ∙ c.in_ok-run.ensures.run.new_values),
       length-lone g.U.Updater.answer c.args.program.now c.args.graph.now new c.limit_of.result,
       c.nodes_are_few.ensures,
     )
@@ -42,4 +45,4 @@ returns-clause-outcome g c =
     c.args.rounds (sym c.limit_of.ensures) (omega (arith, c.requires.some, c.limit_of.ensures))
 
 pub returns-clause-rows : goal.returns-clause-rows
-returns-clause-rows g c = with-past c.args.graph.now c.args.rows.now c.of.result c.requires.rows (c.of.ensures c.args.graph.now c.args.rows.now.by_head c.in_ok-run.ensures.listed)
+returns-clause-rows g c = with-past c.args.graph.now c.args.rows.now c.of.result c.requires.rows (c.of.ensures c.args.graph.now c.args.rows.now.by_head c.in_ok-run.ensures.listed (c.in_ok-counted.ensures c.args.graph.now c.args.rows.now.by_head _ c.args.edges.now c.in_ok-degrees.ensures))

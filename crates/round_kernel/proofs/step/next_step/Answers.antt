@@ -22,6 +22,15 @@ pub turned-requires-clause-all_turned : goal.turned-requires-clause-all_turned
 turned-requires-clause-all_turned g c =
     turned-told c.args.program.now.along c.args.graph.now c.args.rows.now c.args.old.now c.args.new.now c.args.turned.now c.as_slice.result.now c.requires.rows.arcs c.requires.old c.requires.along c.requires.all_turned (c.as_slice.ensures ∙ c.in_ok-arcs.ensures.arcs)
 
+pub turned-requires-2-clause-rows : goal.turned-requires-2-clause-rows
+turned-requires-2-clause-rows g c =
+    let graph = c.args.graph.now in
+    with-past graph c.args.rows.now c.replace-past.new.dest c.requires.rows (subst (λ (p : Past). IsPast graph c.args.rows.now.by_head p) (sym c.replace-past.ensures.after) (c.nothing.ensures graph c.args.rows.now.by_head))
+
+pub turned-requires-2-clause-all_turned : goal.turned-requires-2-clause-all_turned
+turned-requires-2-clause-all_turned g c =
+    turned-told c.args.program.now.along c.args.graph.now c.args.rows.now c.args.old.now c.args.new.now c.args.turned.now c.as_slice-2.result.now c.requires.rows.arcs c.requires.old c.requires.along c.requires.all_turned (c.as_slice-2.ensures ∙ c.in_ok-arcs.ensures.arcs)
+
 pub run_rounds-requires-clause-frame : goal.run_rounds-requires-clause-frame
 run_rounds-requires-clause-frame g c =
     let graph = c.args.graph.now in
@@ -32,10 +41,10 @@ run_rounds-requires-clause-frame g c =
       few = c.nodes_are_few.ensures;
       old_size = c.requires.old;
       new_size = c.requires.new;
-      degree = λ e. c.names_outdeg.ensures.ignores e;
+      degree = λ e. c.names_outdeg-by_degree.ensures.ignores e;
       history = subst (λ (n : ℕ). IsHistory g.U.Updater.answer c.args.program.now graph (Some (arcs_in c.args.rows.now.by_head old)) n c.args.history.now) (sym c.limit_of.ensures) c.requires.history;
-      arcs = subst (λ (xs : List Arc). All (IsArc graph) xs) (sym c.as_slice-2.ensures) c.in_ok-arcs.ensures.within;
-      turned = λ one. turned-told c.args.program.now.along graph c.args.rows.now old c.args.new.now c.args.turned.now c.as_slice-2.result.now c.requires.rows.arcs c.requires.old c.requires.along c.requires.all_turned (c.as_slice-2.ensures ∙ c.in_ok-arcs.ensures.arcs);
+      arcs = subst (λ (xs : List Arc). All (IsArc graph) xs) (sym c.as_slice-3.ensures) c.in_ok-arcs.ensures.within;
+      turned = λ one. turned-told c.args.program.now.along graph c.args.rows.now old c.args.new.now c.args.turned.now c.as_slice-3.result.now c.requires.rows.arcs c.requires.old c.requires.along c.requires.all_turned (c.as_slice-3.ensures ∙ c.in_ok-arcs.ensures.arcs);
     }
 
 pub changes_between-requires-clause-size : goal.changes_between-requires-clause-size
@@ -61,4 +70,4 @@ returns-clause-outcome g c =
     c.args.rounds (sym c.limit_of.ensures) (omega (arith, c.requires.some, c.limit_of.ensures))
 
 pub returns-clause-rows : goal.returns-clause-rows
-returns-clause-rows g c = with-past c.args.graph.now c.args.rows.now c.of.result c.requires.rows (c.of.ensures c.args.graph.now c.args.rows.now.by_head c.in_ok-run.ensures.listed)
+returns-clause-rows g c = with-past c.args.graph.now c.args.rows.now c.of.result c.requires.rows (c.of.ensures c.args.graph.now c.args.rows.now.by_head c.in_ok-run.ensures.listed (c.in_ok-counted.ensures c.args.graph.now c.args.rows.now.by_head c.args.old.now c.args.new.now c.in_ok-degrees.ensures))

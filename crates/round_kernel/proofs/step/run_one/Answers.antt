@@ -27,8 +27,8 @@ go_on-requires-2-clause-within g c =
 
 pub returns-clause-history : goal.returns-clause-history
 returns-clause-history g c =
-    rounds-more g.U.Updater.answer c.args.frame c.args.history.now c.add_round.new.history c.run_round.new.made.changes c.run_round.new.made.marks c.args.round c.requires.history
-    c.in_ok-add_round.ensures.changes c.in_ok-add_round.ensures.first c.in_ok-add_round.ensures.later c.in_ok-work.ensures.changes c.in_ok-work.ensures.marks
+    rounds-more g.U.Updater.answer c.args.frame c.args.history.now c.add_round.new.history c.in_node_order.new.changes c.run_round.new.made.marks c.args.round c.requires.history
+    c.in_ok-add_round.ensures.changes c.in_ok-add_round.ensures.first c.in_ok-add_round.ensures.later c.in_ok-in_node_order.ensures c.in_ok-work.ensures.marks
 
 pub returns-clause-kept : goal.returns-clause-kept
 returns-clause-kept g c = kept-on g.U.Updater.answer c.args.frame c.args.round c.run_round.new.kept c.in_ok-work.ensures.kept

@@ -27,7 +27,7 @@ returns-clause-value g c =
     let r = c.args.spot.round in
     let ms = got_values g.U.Updater.answer p graph arcs v r in
     next-told g.U.Updater.answer p graph arcs v r c.args.side.now.values.now ms _ _ _ _ _ _ c.requires.node c.requires.new.values_are
-    refl c.id-id.ensures.value c.requires.start refl
+    refl c.id-id.ensures.value c.start_at-start.ensures refl
     (c.gathered-gathered.ensures ∙ ap (λ (t : Tally). gathered_in p.gather t) c.requires.tally ∙ tallied p.gather ms)
     (ap (λ (t : Tally). t.count) c.requires.tally) c.update.ensures.answer
 

@@ -1,4 +1,4 @@
-use Rattle.std.proofs.Common.{◌∙◌, ◌<◌, sym, arith}
+use Rattle.std.proofs.Common.{◌<◌, sym, arith}
 use Rattle.std.proofs.lemmas.Bool.{not-true}
 use Rattle.round_kernel.specs.Sides.{arcs_in}
 use Rattle.round_kernel.proofs.Visits.{marked-first}

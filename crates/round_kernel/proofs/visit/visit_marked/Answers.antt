@@ -1,4 +1,4 @@
-use Rattle.std.proofs.Common.{◌∙◌, ap, sym, ℕ, Bool, true, refl}
+use Rattle.std.proofs.Common.{◌∙◌, ap, sym, ℕ, Bool}
 use Rattle.std.specs.Prelude.{if◌then◌else◌}
 use Rattle.round_kernel.specs.Sides.{arcs_in}
 use Rattle.round_kernel.specs.Rounds.{old_view}

@@ -3,12 +3,10 @@ use Rattle.std.specs.Prelude.{replicate}
 use Rattle.std.proofs.lemmas.Bool.{cases_Bool}
 use Rattle.std.proofs.lemmas.List.{length-replicate}
 use Rattle.vertex_lang.specs.declared.arc.Arc.{Arc}
-use Rattle.vertex_lang.specs.Arcs.{outdeg}
 use Rattle.vertex_lang.specs.Expressions.{start_of}
 use Rattle.graph_model.specs.declared.value.Val.{Val}
 use Rattle.std.proofs.lemmas.List.FromFn.{length-map-range_with_len}
 use Rattle.round_kernel.specs.declared.round.Lists.{Lists}
-use Rattle.round_kernel.specs.Sides.{arcs_in}
 use Rattle.round_kernel.specs.Queues.{IsQueue}
 use Rattle.round_kernel.specs.Frames.{count_in}
 use Rattle.round_kernel.proofs.Beginning.{at-start, all-first}
@@ -20,10 +18,10 @@ pub send_all-requires-clause-size : goal.send_all-requires-clause-size
 send_all-requires-clause-size g c = ap (λ (vs : List Val). length vs) (c.deref-5.ensures.value ∙ c.in_ok-starts.ensures) ∙ length-map-range_with_len (start_of c.args.frame.program.now c.args.frame.graph.now) 0 (count_in c.args.frame)
 
 pub send_all-requires-clause-degrees_size : goal.send_all-requires-clause-degrees_size
-send_all-requires-clause-degrees_size g c = ap (λ (ds : List ℕ). length ds) c.deref-6.ensures.value ∙ c.in_ok-new_degrees.ensures.size ∙ c.node_count-count.ensures.count
+send_all-requires-clause-degrees_size g c = ap (λ (ds : List ℕ). length ds) c.deref-6.ensures.value ∙ c.requires.degrees.after.size
 
 pub send_all-requires-clause-small : goal.send_all-requires-clause-small
-send_all-requires-clause-small g c = λ u low. subst (λ (ds : List ℕ). get_or ds u 0 < 2 ^ 32) (sym c.deref-6.ensures.value) (c.in_ok-new_degrees.ensures.small u (omega (arith, low, c.node_count-count.ensures.count)))
+send_all-requires-clause-small g c = λ u low. subst (λ (ds : List ℕ). get_or ds u 0 < 2 ^ 32) (sym c.deref-6.ensures.value) (c.requires.degrees.after.small u low)
 
 pub returns-clause-at : goal.returns-clause-at
 returns-clause-at g c =
@@ -38,8 +36,8 @@ returns-clause-at g c =
       new_before = c.in_ok-new_before.new_before;
       alike = c.in_ok-alike.alike;
       new_sent = c.in_ok-alike.new_sent;
-      old_degrees = c.in_ok-old_degrees.old_degrees;
-      new_degrees = c.in_ok-new_degrees.new_degrees;
+      old_degrees = c.args.degrees.old;
+      new_degrees = c.args.degrees.new;
       touched = c.in_ok-touched.touched;
       marked = c.in_ok-marked.marked;
       watched = c.in_ok-watched.watched;
@@ -47,32 +45,31 @@ returns-clause-at g c =
       queue = c.in_ok-queue.queue;
       scratch = record { left = c.new-3.result; right = c.new-4.result };
     } in
-    let arcs = c.arcs-arcs.ensures in
     let touched : c.in_ok-touched.touched.items ≡ replicate n f.first = c.in_ok-touched.ensures.items_if_clones_equal (λ y e. e) in
     let marked : c.in_ok-marked.marked.items ≡ replicate n false = c.in_ok-marked.ensures.items_if_clones_equal (λ y e. e) in
-    at-start g.U.Updater.answer f c.requires lists c.in_ok-starts.ensures
+    at-start g.U.Updater.answer f c.requires.frame lists c.in_ok-starts.ensures
     (c.in_ok-old_now.ensures.items ∙ c.deref.ensures.value)
     (c.in_ok-old_before.ensures.items ∙ c.deref-2.ensures.value)
     (c.in_ok-new_now.ensures.items ∙ c.deref-3.ensures.value)
     (c.in_ok-new_before.ensures.items ∙ c.deref-4.ensures.value)
-    (c.in_ok-old_degrees.ensures.size ∙ count)
+    c.requires.degrees.before.size
     (elim (cases_Bool f.by_degree) [
-      | inl t ↦ inr (λ u low. c.in_ok-old_degrees.ensures.degrees t u (omega (arith, low, count)) ∙ ap (λ (xs : List Arc). outdeg (arcs_in xs f.old.now) u) arcs)
-      | inr e ↦ inl (c.requires.degree e)
+      | inl t ↦ inr (c.requires.degrees.before.each t)
+      | inr e ↦ inl (c.requires.frame.degree e)
     ])
-    (λ u low. c.in_ok-old_degrees.ensures.small u (omega (arith, low, count)))
-    (c.in_ok-new_degrees.ensures.size ∙ count)
+    c.requires.degrees.before.small
+    c.requires.degrees.after.size
     (elim (cases_Bool f.by_degree) [
-      | inl t ↦ inr (λ u low. c.in_ok-new_degrees.ensures.degrees t u (omega (arith, low, count)) ∙ ap (λ (xs : List Arc). outdeg (arcs_in xs f.new.now) u) arcs)
-      | inr e ↦ inl (c.requires.degree e)
+      | inl t ↦ inr (c.requires.degrees.after.each t)
+      | inr e ↦ inl (c.requires.frame.degree e)
     ])
-    (λ u low. c.in_ok-new_degrees.ensures.small u (omega (arith, low, count)))
+    c.requires.degrees.after.small
     (ap (λ (bs : List Bool). length bs) touched ∙ length-replicate n f.first ∙ count)
     (λ v low. ap (λ (bs : List Bool). get_or bs v false) touched ∙ all-first n v f.first (omega (arith, low, count)))
     (ap (λ (bs : List Bool). length bs) marked ∙ length-replicate n false ∙ count)
     (c.in_ok-watched.ensures.size ∙ count)
     c.in_ok-watched.ensures.tails
-    (told-grouped (λ (a : Arc). a.tail.0) f.graph.now f.rows.now.by_head f.turned.now f.first f.old.now f.new.now c.in_ok-turned.turned n count c.in_ok-turned.ensures.rows c.in_ok-turned.ensures.same c.requires.arcs c.requires.turned)
+    (told-grouped (λ (a : Arc). a.tail.0) f.graph.now f.rows.now.by_head f.turned.now f.first f.old.now f.new.now c.in_ok-turned.turned n count c.in_ok-turned.ensures.rows c.in_ok-turned.ensures.same c.requires.frame.arcs c.requires.frame.turned)
     (λ e. c.may_keep-may.ensures (c.in_ok-alike.ensures.only e))
     (sent-at lists.alike f.program.now f.graph.now _ _ _ _ _ _ (sym c.deref-6.ensures.value) (sym c.deref-5.ensures.value) refl c.in_ok-alike.ensures.sent)
     (subst (λ (k : ℕ). IsQueue k c.in_ok-queue.queue) count c.in_ok-queue.ensures.queue)
