@@ -20,6 +20,3 @@ pub use cells::{Base, Cells, Deed};
 pub use chunk::Chunk;
 pub use iter::Iter;
 pub use list::ChunkList;
-
-#[cfg(test)]
-mod tests;

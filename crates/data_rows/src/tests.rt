@@ -1,8 +1,7 @@
 //! Rows, worked out by hand. Each file has those of a theme.
 
 mod graphs;
-mod hostile_files;
-mod loading;
 mod matrices;
+mod places;
 mod predicates;
 mod two_ways;

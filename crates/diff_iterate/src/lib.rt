@@ -17,6 +17,3 @@ mod parts;
 
 pub use iterate::Iterate;
 pub use loop_theory::LoopInput;
-
-#[cfg(test)]
-mod tests;

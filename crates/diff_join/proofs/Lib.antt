@@ -3,5 +3,4 @@ mod Pushing
 mod Weights
 mod Waiting
 mod Keeping
-mod Settling
 mod Outcomes

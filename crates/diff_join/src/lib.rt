@@ -18,6 +18,3 @@ mod products;
 
 pub use join::Join;
 pub use pairing::Pairing;
-
-#[cfg(test)]
-mod tests;

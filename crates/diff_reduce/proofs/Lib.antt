@@ -4,5 +4,4 @@ pub mod Walks
 pub mod Outcomes
 pub mod LaterLaws
 pub mod Stepping
-pub mod Settling
 pub mod Rising

@@ -21,6 +21,3 @@ mod sets;
 
 pub use key_logic::KeyLogic;
 pub use reduce::Reduce;
-
-#[cfg(test)]
-mod tests;

@@ -43,6 +43,3 @@ pub use map::Map;
 pub use operator::Operator;
 pub use quiet::{NoCalls, Quiet};
 pub use side::{Side, split};
-
-#[cfg(test)]
-mod tests;

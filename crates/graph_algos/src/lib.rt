@@ -18,6 +18,3 @@ pub use component::wcc;
 pub use distance::dist;
 pub use hop_count::hops;
 pub use rank::pagerank;
-
-#[cfg(test)]
-mod tests;

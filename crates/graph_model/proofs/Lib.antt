@@ -5,5 +5,3 @@ pub mod Strict
 pub mod ColumnFacts
 pub mod JoinFacts
 pub mod Growth
-pub mod Distinct
-pub mod SmallGraphs

@@ -21,6 +21,3 @@ pub use cell::{CellRef, Cells, Column, Kind};
 pub use graph::Graph;
 pub use number::{EdgeNo, NodeNo, ViewNo};
 pub use value::Val;
-
-#[cfg(test)]
-mod tests;

@@ -20,6 +20,3 @@ pub use position::Position;
 pub use round::Round;
 pub use time::Time;
 pub use version::Version;
-
-#[cfg(test)]
-mod tests;

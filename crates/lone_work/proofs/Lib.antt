@@ -1,3 +1,2 @@
 pub mod Sorted
 pub mod Counting
-pub mod SmallGraphs

@@ -25,6 +25,3 @@ pub use laws::{
     untouched_agree, untouched_same_input, untouched_same_mark, untouched_same_value,
     untouched_test, work_by_rounds, work_is_bounded,
 };
-
-#[cfg(test)]
-mod tests;

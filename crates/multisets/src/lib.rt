@@ -13,6 +13,3 @@ mod compare;
 pub mod laws;
 
 pub use compare::are_one_multiset;
-
-#[cfg(test)]
-mod tests;

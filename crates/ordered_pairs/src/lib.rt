@@ -12,6 +12,3 @@
 mod span;
 
 pub use span::widened;
-
-#[cfg(test)]
-mod tests;

@@ -25,8 +25,3 @@ pub use results::Results;
 pub use table::Table;
 pub use text::head_text;
 pub use writing::write_table;
-
-#[cfg(test)]
-mod results_tests;
-#[cfg(test)]
-mod tests;

@@ -1,4 +1,3 @@
-mod checking;
-mod parsing;
 mod printing;
 mod tokens;
+mod trees;

@@ -93,6 +93,3 @@ pub fn starts_new(rule: SplitRule, counts: Counts) -> bool
         SplitRule::Auto => is_cheaper_anew(counts),
     }
 }
-
-#[cfg(test)]
-mod tests;

@@ -38,6 +38,3 @@ pub use sink::{Sink, put_all};
 pub use std_sink::StdSink;
 pub use text::Text;
 pub use trouble::Trouble;
-
-#[cfg(test)]
-mod tests;

@@ -24,6 +24,3 @@ pub use cursor::Cursor;
 #[doc(hidden)]
 pub use layer::Layer;
 pub use trace::Trace;
-
-#[cfg(test)]
-mod tests;

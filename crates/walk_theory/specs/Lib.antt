@@ -4,4 +4,3 @@ pub mod Joining
 pub mod Turning
 pub mod Weighing
 pub mod Shortening
-pub mod Examples

@@ -17,6 +17,3 @@ mod weight;
 
 pub use batch::Batch;
 pub use weight::Weight;
-
-#[cfg(test)]
-mod tests;

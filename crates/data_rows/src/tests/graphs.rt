@@ -103,9 +103,31 @@ fn add_nine(alloc: Global, graph: &mut Graph) -> Result<bool, NoMemory> {
     Ok(true)
 }
 
+// The graph of three nodes. Nothing is said of it, so that no proof reads its files.
+fn three_nodes(alloc: Global) -> Result<Graph, Fail> {
+    let graph = load(alloc, b"id\n10\n2\n7\n", b"src,dst\n")?;
+    Ok(graph)
+}
+
+// The graph of the four edges.
+fn four_edges(alloc: Global) -> Result<Graph, Fail> {
+    let graph = load(alloc, NODES.as_bytes(), EDGES.as_bytes())?;
+    Ok(graph)
+}
+
+// The edges before one is added, whether it was, and how many there are then and which.
+fn before_and_behind(alloc: Global) -> Result<String, Fail> {
+    let mut graph = four_edges(alloc)?;
+    let mut text = edges_text(alloc, &graph)?;
+    let is_added = add_nine(alloc, &mut graph)?;
+    text.push_str(format!(in alloc; " {is_added} {} ", graph.edge_count())?.as_str())?;
+    text.push_str(edges_text(alloc, &graph)?.as_str())?;
+    Ok(text)
+}
+
 #[test]
 fn nodes_are_found_by_id(rt: HostRuntime) -> Result<(), Fail> {
-    let graph = load(rt.alloc(), b"id\n10\n2\n7\n", b"src,dst\n")?;
+    let graph = three_nodes(rt.alloc())?;
     let order = order_text(rt.alloc(), &graph)?;
     assert_eq!(rt; order.as_str(), " 1 2 0");
     assert_eq!(rt; graph.find(7), Some(NodeNo(2)));
@@ -115,18 +137,10 @@ fn nodes_are_found_by_id(rt: HostRuntime) -> Result<(), Fail> {
 
 #[test]
 fn added_edges_come_last(rt: HostRuntime) -> Result<(), Fail> {
-    let mut graph = load(rt.alloc(), NODES.as_bytes(), EDGES.as_bytes())?;
-    let before = edges_text(rt.alloc(), &graph)?;
+    let text = before_and_behind(rt.alloc())?;
     assert_eq!(rt;
-        before.as_str(),
-        "0>1: Int(1);1>2: Int(1);0>2: Int(2);2>3: Int(3);"
-    );
-    assert!(rt; add_nine(rt.alloc(), &mut graph)?);
-    assert_eq!(rt; graph.edge_count(), 5);
-    let after = edges_text(rt.alloc(), &graph)?;
-    assert_eq!(rt;
-        after.as_str(),
-        "0>1: Int(1);1>2: Int(1);0>2: Int(2);2>3: Int(3);3>0: Int(9);"
+        text.as_str(),
+        "0>1: Int(1);1>2: Int(1);0>2: Int(2);2>3: Int(3); true 5 0>1: Int(1);1>2: Int(1);0>2: Int(2);2>3: Int(3);3>0: Int(9);"
     );
     Ok(())
 }

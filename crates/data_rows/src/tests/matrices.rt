@@ -221,15 +221,26 @@ fn grown(alloc: Global, graph: &Graph) -> Result<Matrix, NoMemory> {
     Ok(matrix)
 }
 
-// What the views of so many edges answer, which begin around the end of the first word.
-fn around_a_word(alloc: Global, count: u32) -> Result<String, Fail> {
+// The graph of so many edges. Nothing is said of it either.
+fn numbered_edges(alloc: Global, count: u32) -> Result<Graph, Fail> {
     let edges = edges_file(alloc, count)?;
     let graph = load(alloc, NODES, edges.as_bytes())?;
-    let matrix = grown(alloc, &graph)?;
-    let mut text = figures(alloc, &matrix)?;
-    text.push_str(lists(alloc, &matrix, 0)?.as_str())?;
-    text.push_str(lists(alloc, &matrix, 2)?.as_str())?;
+    Ok(graph)
+}
+
+// The figures of all views, and the lists of the first and of the last.
+fn figures_and_lists(alloc: Global, matrix: &Matrix) -> Result<String, Fail> {
+    let mut text = figures(alloc, matrix)?;
+    text.push_str(lists(alloc, matrix, 0)?.as_str())?;
+    text.push_str(lists(alloc, matrix, 2)?.as_str())?;
     Ok(text)
+}
+
+// What the views of so many edges answer, which begin around the end of the first word.
+fn around_a_word(alloc: Global, count: u32) -> Result<String, Fail> {
+    let graph = numbered_edges(alloc, count)?;
+    let matrix = grown(alloc, &graph)?;
+    figures_and_lists(alloc, &matrix)
 }
 
 #[test]

@@ -27,11 +27,11 @@ fn digits(alloc: Global, pred: &Pred, graph: &Graph) -> Result<String, AllocErro
     Ok(text)
 }
 
-// It holds of the edges of the small graph as these digits say.
-fn holds_as(rt: &impl Abort, alloc: Global, pred: &Pred, wanted: &str) -> Result<(), AllocError> {
+// It holds of the edges of the small graph as these digits say. It is handed in, so that a test with many holds one at a time.
+fn holds_as(rt: &impl Abort, alloc: Global, pred: Pred, wanted: &str) -> Result<(), AllocError> {
     match load(alloc, NODES, EDGES) {
         Ok(graph) => {
-            let found = digits(alloc, pred, &graph)?;
+            let found = digits(alloc, &pred, &graph)?;
             assert_eq!(rt; found.as_str(), wanted);
         }
         Err(_) => assert!(rt; false),
@@ -47,27 +47,27 @@ fn text(alloc: Global, bytes: &str) -> Result<Place, AllocError> {
 fn a_comparison_with_an_absent_cell_is_false(rt: HostRuntime) -> Result<(), Fail> {
     let alloc = rt.alloc();
     let unequal = Pred::Compare(Place::Edge(0), Cmp::Ne, Place::Number(5));
-    holds_as(&rt, alloc, &unequal, "10")?;
+    holds_as(&rt, alloc, unequal, "10")?;
     let other_side = Pred::Compare(Place::Number(5), Cmp::Ne, Place::Edge(0));
-    holds_as(&rt, alloc, &other_side, "10")?;
+    holds_as(&rt, alloc, other_side, "10")?;
     let unequal = Pred::Compare(Place::Edge(1), Cmp::Ne, Place::Bool(false));
-    holds_as(&rt, alloc, &unequal, "10")?;
+    holds_as(&rt, alloc, unequal, "10")?;
     let equal = Pred::Compare(Place::Edge(0), Cmp::Eq, Place::Number(3));
     let inverted = Pred::Not(Boxed::new(alloc, equal)?);
-    holds_as(&rt, alloc, &inverted, "01")?;
+    holds_as(&rt, alloc, inverted, "01")?;
     Ok(())
 }
 
 #[test]
 fn cells_are_absent_and_values_are_not(rt: HostRuntime) -> Result<(), Fail> {
     let alloc = rt.alloc();
-    holds_as(&rt, alloc, &Pred::Missing(Place::Edge(0)), "01")?;
-    holds_as(&rt, alloc, &Pred::Missing(Place::Edge(2)), "00")?;
-    holds_as(&rt, alloc, &Pred::Missing(Place::Src(0)), "01")?;
-    holds_as(&rt, alloc, &Pred::Missing(Place::Dst(0)), "10")?;
-    holds_as(&rt, alloc, &Pred::Missing(Place::SrcId), "00")?;
-    holds_as(&rt, alloc, &Pred::Missing(Place::Number(5)), "00")?;
-    holds_as(&rt, alloc, &Pred::Missing(Place::Bool(true)), "00")?;
+    holds_as(&rt, alloc, Pred::Missing(Place::Edge(0)), "01")?;
+    holds_as(&rt, alloc, Pred::Missing(Place::Edge(2)), "00")?;
+    holds_as(&rt, alloc, Pred::Missing(Place::Src(0)), "01")?;
+    holds_as(&rt, alloc, Pred::Missing(Place::Dst(0)), "10")?;
+    holds_as(&rt, alloc, Pred::Missing(Place::SrcId), "00")?;
+    holds_as(&rt, alloc, Pred::Missing(Place::Number(5)), "00")?;
+    holds_as(&rt, alloc, Pred::Missing(Place::Bool(true)), "00")?;
     Ok(())
 }
 
@@ -75,13 +75,13 @@ fn cells_are_absent_and_values_are_not(rt: HostRuntime) -> Result<(), Fail> {
 fn cells_of_both_ends(rt: HostRuntime) -> Result<(), Fail> {
     let alloc = rt.alloc();
     let rising = Pred::Compare(Place::SrcId, Cmp::Lt, Place::DstId);
-    holds_as(&rt, alloc, &rising, "10")?;
+    holds_as(&rt, alloc, rising, "10")?;
     let source = Pred::Compare(Place::Src(0), Cmp::Gt, Place::Number(4));
-    holds_as(&rt, alloc, &source, "10")?;
+    holds_as(&rt, alloc, source, "10")?;
     let target = Pred::Compare(Place::Dst(0), Cmp::Ge, Place::Number(5));
-    holds_as(&rt, alloc, &target, "01")?;
+    holds_as(&rt, alloc, target, "01")?;
     let target = Pred::Compare(Place::Dst(1), Cmp::Eq, text(alloc, "y")?);
-    holds_as(&rt, alloc, &target, "10")?;
+    holds_as(&rt, alloc, target, "10")?;
     Ok(())
 }
 
@@ -89,13 +89,13 @@ fn cells_of_both_ends(rt: HostRuntime) -> Result<(), Fail> {
 fn texts_by_their_bytes(rt: HostRuntime) -> Result<(), Fail> {
     let alloc = rt.alloc();
     let below = Pred::Compare(Place::Edge(2), Cmp::Lt, text(alloc, "abd")?);
-    holds_as(&rt, alloc, &below, "11")?;
+    holds_as(&rt, alloc, below, "11")?;
     let at_most = Pred::Compare(Place::Edge(2), Cmp::Le, text(alloc, "ab")?);
-    holds_as(&rt, alloc, &at_most, "01")?;
+    holds_as(&rt, alloc, at_most, "01")?;
     let capital = Pred::Compare(text(alloc, "Z")?, Cmp::Lt, text(alloc, "a")?);
-    holds_as(&rt, alloc, &capital, "11")?;
+    holds_as(&rt, alloc, capital, "11")?;
     let empty = Pred::Compare(Place::Edge(2), Cmp::Eq, text(alloc, "")?);
-    holds_as(&rt, alloc, &empty, "01")?;
+    holds_as(&rt, alloc, empty, "01")?;
     Ok(())
 }
 
@@ -103,13 +103,13 @@ fn texts_by_their_bytes(rt: HostRuntime) -> Result<(), Fail> {
 fn values_of_two_kinds_and_columns_that_are_not_there(rt: HostRuntime) -> Result<(), Fail> {
     let alloc = rt.alloc();
     let mixed = Pred::Compare(Place::Edge(2), Cmp::Ne, Place::Number(1));
-    holds_as(&rt, alloc, &mixed, "00")?;
+    holds_as(&rt, alloc, mixed, "00")?;
     let ordered = Pred::Compare(Place::Bool(false), Cmp::Lt, Place::Bool(true));
-    holds_as(&rt, alloc, &ordered, "00")?;
+    holds_as(&rt, alloc, ordered, "00")?;
     let unequal = Pred::Compare(Place::Bool(false), Cmp::Ne, Place::Bool(true));
-    holds_as(&rt, alloc, &unequal, "11")?;
-    holds_as(&rt, alloc, &Pred::Missing(Place::Edge(3)), "11")?;
-    holds_as(&rt, alloc, &Pred::Missing(Place::Src(2)), "11")?;
+    holds_as(&rt, alloc, unequal, "11")?;
+    holds_as(&rt, alloc, Pred::Missing(Place::Edge(3)), "11")?;
+    holds_as(&rt, alloc, Pred::Missing(Place::Src(2)), "11")?;
     Ok(())
 }
 
@@ -125,12 +125,12 @@ fn two_members(alloc: Global) -> Result<List<Pred>, AllocError> {
 #[test]
 fn chains_of_predicates(rt: HostRuntime) -> Result<(), Fail> {
     let alloc = rt.alloc();
-    holds_as(&rt, alloc, &Pred::Or(two_members(alloc)?), "11")?;
-    holds_as(&rt, alloc, &Pred::And(two_members(alloc)?), "00")?;
-    holds_as(&rt, alloc, &Pred::Or(List::new(alloc)), "00")?;
-    holds_as(&rt, alloc, &Pred::And(List::new(alloc)), "11")?;
-    holds_as(&rt, alloc, &Pred::Constant(true), "11")?;
-    holds_as(&rt, alloc, &Pred::Constant(false), "00")?;
+    holds_as(&rt, alloc, Pred::Or(two_members(alloc)?), "11")?;
+    holds_as(&rt, alloc, Pred::And(two_members(alloc)?), "00")?;
+    holds_as(&rt, alloc, Pred::Or(List::new(alloc)), "00")?;
+    holds_as(&rt, alloc, Pred::And(List::new(alloc)), "11")?;
+    holds_as(&rt, alloc, Pred::Constant(true), "11")?;
+    holds_as(&rt, alloc, Pred::Constant(false), "00")?;
     Ok(())
 }
 

@@ -195,13 +195,20 @@ fn columns_without_numbers(rt: HostRuntime) -> Result<(), Fail> {
     Ok(())
 }
 
+fn chain_sizes(alloc: Global) -> Result<String, Fail> {
+    let graph = six_edges(alloc)?;
+    sizes(alloc, &graph, chains(alloc, false)?, chains(alloc, true)?)
+}
+
+fn sizes_without_rules(alloc: Global) -> Result<String, Fail> {
+    let graph = six_edges(alloc)?;
+    sizes(alloc, &graph, no_rule(alloc, false)?, no_rule(alloc, true)?)
+}
+
 #[test]
 fn conjunctions_in_two_ways(rt: HostRuntime) -> Result<(), Fail> {
     let alloc = rt.alloc();
-    let graph = six_edges(alloc)?;
-    let found = sizes(alloc, &graph, chains(alloc, false)?, chains(alloc, true)?)?;
-    assert_eq!(rt; found.as_str(), "6 3 2 2 0 0 1 ");
-    let found = sizes(alloc, &graph, no_rule(alloc, false)?, no_rule(alloc, true)?)?;
-    assert_eq!(rt; found.as_str(), "6 ");
+    assert_eq!(rt; chain_sizes(alloc)?.as_str(), "6 3 2 2 0 0 1 ");
+    assert_eq!(rt; sizes_without_rules(alloc)?.as_str(), "6 ");
     Ok(())
 }

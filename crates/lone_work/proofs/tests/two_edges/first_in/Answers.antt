@@ -1,4 +1,0 @@
-use Rattle.lone_work.proofs.tests.two_edges.first_in.Goals as goal
-
-pub count_first_work-requires-clause-checked : goal.count_first_work-requires-clause-checked
-count_first_work-requires-clause-checked g c = c.counts-program.ensures _

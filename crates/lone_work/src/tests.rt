@@ -1,3 +1,0 @@
-//! Tests of the counted work.
-
-mod two_edges;

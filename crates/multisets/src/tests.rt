@@ -1,3 +1,0 @@
-//! Tests of lists as multisets.
-
-mod compare;

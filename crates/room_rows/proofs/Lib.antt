@@ -1,0 +1,4 @@
+mod Distinct
+mod Programs
+mod Reading
+mod SmallGraphs
