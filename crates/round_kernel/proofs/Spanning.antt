@@ -1,5 +1,5 @@
 -- What messages come to, with one more and at the end.
-use Rattle.std.proofs.Common.{◌≡◌, ◌∙◌, ◌+◌, ◌∷◌, [], ℕ, ℤ, pos, ◌+ℤ◌, Bool, List, fold, w64, SFits, ap, sym, refl, subst, arith, inl, inr}
+use Rattle.std.proofs.Common.{◌≡◌, ◌∙◌, ◌+◌, ◌∷◌, [], ℕ, ℤ, pos, ◌+ℤ◌, Bool, List, fold, append-nil, w64, SFits, ap, sym, refl, subst, arith, inl, inr}
 use Rattle.std.specs.Prelude.{◌⊎◌, ◌==◌, int_lt, if◌then◌else◌}
 use Rattle.std.specs.Int.{int_min, int_max}
 use Rattle.std.specs.Ordering.{int_eq}
@@ -67,6 +67,28 @@ span-more span more ms z fits other least_is greatest_is total_is count_is h =
       start = λ none. absurd (omega arith);
     } in
     subst (λ (m : Val). IsSpan more (with_message ms m)) (sym (number-is z other)) with_one
+
+-- none isn't sent
+pub span-still : (span more : Span) (ms : List Val) (z : ℤ) → z ≡ lowest_number
+    → more.least ≡ span.least → more.greatest ≡ span.greatest → more.total ≡ span.total → more.count ≡ span.count
+    → IsSpan span ms → IsSpan more (with_message ms (value_in z))
+span-still span more ms z none least_is greatest_is total_is count_is h =
+    let as_it_was : IsSpan more ms = record {
+      low = h.low ∙ ap (λ (n : ℕ). if n == 0 then Nil else Num span.least) (sym count_is) ∙ ap (λ (x : ℤ). if more.count == 0 then Nil else Num x) (sym least_is);
+      high = h.high ∙ ap value_in (sym greatest_is);
+      sum = total_is ∙ h.sum;
+      size = count_is ∙ h.size;
+      start = λ empty. least_is ∙ h.start (sym count_is ∙ empty);
+    } in
+    let same : with_message ms Nil ≡ ms = append-nil ms in
+    subst (λ (m : Val). IsSpan more (with_message ms m)) (sym (none-is z none)) (subst (λ (xs : List Val). IsSpan more xs) (sym same) as_it_was)
+
+-- the least and the greatest of numbers in range
+pub least-stays : (x : ℤ) → SFits w64 x → int_min x greatest ≡ x
+least-stays x fits = grind (arith, ints)
+
+pub greatest-stays : (x : ℤ) → SFits w64 x → int_max x lowest_number ≡ x
+greatest-stays x fits = grind (arith, ints)
 
 -- ---- at the end
 

@@ -1,11 +1,13 @@
 //! What messages come to that are kept as numbers of eight bytes.
 
-ghost use Rattle.std.specs.Prelude.{◌≡◌, ◌<◌, ◌^◌, ◌==◌, if◌then◌else◌, [], List, fold};
+ghost use Rattle.std.specs.Prelude.{◌≡◌, ◌<◌, ◌^◌, ◌==◌, if◌then◌else◌, [], List, pos, fold};
+ghost use Rattle.std.specs.Ordering.{int_eq};
 ghost use Rattle.graph_model.specs.declared.value.Val.TheVariants.{Nil, Num};
 ghost use Rattle.round_kernel.specs.Codes.{value_in};
 ghost use Rattle.round_kernel.specs.Spans.{IsSpan, sums_of, with_message};
 ghost use Rattle.round_kernel.specs.Tallies.{IsBounded, tally_of};
 ghost use Rattle.vertex_lang.specs.Mail.{extreme_with};
+ghost use Rattle.vertex_lang.specs.Values.{greatest, lowest_number};
 
 use crate::tally::Tally;
 use graph_model::Val;
@@ -41,22 +43,19 @@ impl Span {
         }
     }
 
-    /// With the message that is this number. None is not sent.
+    /// With the message that is this number. None is not sent: it is added as what changes nothing, since a branch would
+    /// rest on the messages, in no order.
     pub(crate) fn with(self, number: i64) -> Span
         requires room { self.count < 2 ^ 32 }
         requires bounded { IsBounded (sums_of self) }
         ensures span { (ms : List Val) → IsSpan self ms → IsSpan result (with_message ms (value_in number)) }
         ensures bounded { IsBounded (sums_of result) }
     {
-        if number == NONE {
-            self
-        } else {
-            Span {
-                least: self.least.min(number),
-                greatest: self.greatest.max(number),
-                total: self.total + i128::from(number),
-                count: self.count + 1,
-            }
+        Span {
+            least: self.least.min(low_of(number)),
+            greatest: self.greatest.max(number),
+            total: self.total + i128::from(term_of(number)),
+            count: self.count + sent_in(number),
         }
     }
 
@@ -93,6 +92,27 @@ impl Span {
             Val::Num(self.least)
         }
     }
+}
+
+// The number, or the greatest one where it stands for none.
+fn low_of(number: i64) -> i64
+    ensures { result ≡ (if int_eq number lowest_number then greatest else number) }
+{
+    if number == NONE { i64::MAX } else { number }
+}
+
+// The number, or 0 where it stands for none.
+fn term_of(number: i64) -> i64
+    ensures { result ≡ (if int_eq number lowest_number then pos 0 else number) }
+{
+    if number == NONE { 0 } else { number }
+}
+
+// How many messages it is: 0 where it stands for none.
+fn sent_in(number: i64) -> u64
+    ensures { result ≡ (if int_eq number lowest_number then 0 else 1) }
+{
+    u64::from(number != NONE)
 }
 
 /// The value for which a number stands.
