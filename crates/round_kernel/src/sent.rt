@@ -41,7 +41,27 @@ pub(crate) fn send(
     requires edge { edge.0 < length graph.now.ends }
     ensures message { result ≡ sent_by program.now graph.now tail.0 value outdeg edge.0 }
 {
-    match form_of(program) {
+    send_by(form_of(program), program, graph, tail, value, outdeg, edge)
+}
+
+/// The same, given the form of the message, which whoever sends for many nodes asks for once.
+pub(crate) fn send_by(
+    form: Form,
+    program: &Program,
+    graph: &Graph,
+    tail: NodeNo,
+    value: Val,
+    outdeg: u64,
+    edge: EdgeNo,
+) -> Val
+    requires form { HasForm program.now form }
+    requires checked { IsChecked program.now graph.now }
+    requires tail { tail.0 < length graph.now.ids }
+    requires outdeg { outdeg < 2 ^ 32 }
+    requires edge { edge.0 < length graph.now.ends }
+    ensures message { result ≡ sent_by program.now graph.now tail.0 value outdeg edge.0 }
+{
+    match form {
         Form::Value => value,
         Form::Plus(number) => plus(value, number),
         Form::Share => share(value, outdeg),
@@ -49,8 +69,8 @@ pub(crate) fn send(
     }
 }
 
-// The form of the message.
-fn form_of(program: &Program) -> Form
+/// The form of the message.
+pub(crate) fn form_of(program: &Program) -> Form
     ensures { HasForm program.now result }
 {
     match &program.send {

@@ -7,13 +7,14 @@ ghost use Rattle.vertex_lang.specs.Expressions.{start_of};
 ghost use Rattle.vertex_lang.specs.Arcs.{outdeg};
 ghost use Rattle.vertex_lang.specs.Rounds.{nodes_of};
 ghost use Rattle.round_kernel.specs.Sides.{arcs_in, AreSent, MayKeep};
+ghost use Rattle.round_kernel.specs.Forms.{HasForm};
 ghost use Rattle.round_kernel.specs.Numbers.{IsPut};
 ghost use Rattle.round_kernel.specs.Histories.{AreStarts, HasChanges, AreChanged, changes_from, all_from};
 
 use crate::history::Change;
 use crate::message::is_other;
 use crate::numbers::number_of;
-use crate::sent::send;
+use crate::sent::{Form, form_of, send_by};
 use graph_model::{EdgeNo, Graph, NodeNo, Val};
 use std::alloc::Global;
 use surge_outside::{List, NoMemory};
@@ -145,15 +146,17 @@ pub(crate) fn apply(
     ensures only { IsTrue result → IsTrue alike }
     ensures sent { AreSent result program.now graph.now degrees.now now.new sent.new }
 {
+    let form = form_of(program);
     let mut kept = alike;
     for change in changes {
-        kept = change_one(program, graph, kept, degrees, now, sent, *change);
+        kept = change_one(form, program, graph, kept, degrees, now, sent, *change);
     }
     kept
 }
 
 // Gives a node its new value, and its new message where messages are kept. It tells whether they are kept from then on.
 fn change_one(
+    form: Form,
     program: &Program,
     graph: &Graph,
     alike: bool,
@@ -162,6 +165,7 @@ fn change_one(
     sent: &mut [i64],
     change: Change,
 ) -> bool
+    requires form { HasForm program.now form }
     requires node { change.node.0 < length now.old }
     requires checked { IsChecked program.now graph.now }
     requires size { length now.old ≡ length graph.now.ids }
@@ -178,7 +182,8 @@ fn change_one(
     if !alike {
         return false;
     }
-    let message = send(
+    let message = send_by(
+        form,
         program,
         graph,
         change.node,
@@ -234,10 +239,12 @@ pub(crate) fn send_all(
     if !alike {
         return Ok((false, sent));
     }
+    let form = form_of(program);
     let count = graph.node_count();
     for node in 0..count {
         let place = node as usize;
-        let message = send(
+        let message = send_by(
+            form,
             program,
             graph,
             NodeNo(node),
