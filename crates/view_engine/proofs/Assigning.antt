@@ -3,6 +3,7 @@ use Rattle.std.proofs.Common.{◌≡◌, ℕ, zero, suc, ◌+◌, ◌<◌, ◌�
 use Rattle.std.specs.List.{sum_by}
 use Rattle.std.proofs.lemmas.List.Sums.{fold-append}
 use Rattle.std.proofs.lemmas.Option.{slice_get-get_or}
+use Rattle.std.specs.Prelude.{IfSome}
 use Rattle.std.specs.declared.alloc.Global.{Global}
 use Rattle.graph_model.specs.declared.number.ViewNo.{ViewNo}
 use Rattle.vertex_lang.specs.Expressions.{Answer}
@@ -12,7 +13,7 @@ use Rattle.view_matrix.specs.Matrices.{MatrixData, IsView, edges_in}
 use Rattle.view_order.specs.Greedy.{numbers}
 use Rattle.result_tables.specs.Results.{ResultsData}
 use Rattle.view_segment.specs.declared.segment.Segment.{Segment}
-use Rattle.view_segment.specs.Segments.{last_of, IsFinished, SegmentStands, HistoryOf, stepped}
+use Rattle.view_segment.specs.Segments.{last_of, IsFinished, SegmentStands, HistoryOf, FlagsOf, stepped}
 use Rattle.view_segment.specs.Tasks.{Task, works_of}
 use Rattle.view_engine.specs.declared.counting.Decision.{Decision}
 use Rattle.view_engine.specs.declared.engine.Engine.{Engine}
@@ -70,10 +71,12 @@ module _ (v : ViewNo) where
     few = omega (arith, is.few, length-append s.views (v ∷ []));
     works = is.works ∙ ap (works_of task) (sym (same_stepped s is.few));
     history = subst (λ (l : List ℕ). HistoryOf task (last_of l) s.history) (sym (same_stepped s is.few)) is.history;
+    flags = subst (λ (l : List ℕ). IfSome s.flags (λ (kept : Vec Bool Global). FlagsOf task (last_of l) kept.items)) (sym (same_stepped s is.few)) is.flags;
+    done = λ all. absurd (omega (arith, is.few, length-append s.views (v ∷ []), all));
   }
 
   pub stands_fresh : (task : Task) → SegmentStands task (fresh v)
-  stands_fresh task = record { few = omega arith; works = refl; history = tt }
+  stands_fresh task = record { few = omega arith; works = refl; history = tt; flags = tt; done = λ all. refl }
 
   pub sound_more : (s : Segment) → IsSound s → IsSound (with_view s v)
   sound_more s is = record {

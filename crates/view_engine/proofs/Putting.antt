@@ -1,5 +1,5 @@
 -- What a view more changes of segments.
-use Rattle.std.proofs.Common.{◌≡◌, ℕ, zero, suc, ◌+◌, ◌<◌, ◌≤◌, ◌==◌, Bool, true, false, List, [], ◌∷◌, ◌++◌, length, map, get_or, slice_get, All, Option, Some, None, refl, sym, ◌∙◌, ap, arith, set, append_assoc, append-nil, length-append, cond}
+use Rattle.std.proofs.Common.{◌≡◌, ℕ, zero, suc, ◌+◌, ◌<◌, ◌≤◌, ◌==◌, Bool, Vec, Global, true, false, List, [], ◌∷◌, ◌++◌, length, map, get_or, slice_get, All, Option, Some, None, refl, sym, ◌∙◌, ap, arith, set, append_assoc, append-nil, length-append, cond}
 use Rattle.std.specs.List.{sum_by}
 use Rattle.std.proofs.lemmas.List.{map-append}
 use Rattle.std.proofs.lemmas.List.Sums.{sum_by-cons}
@@ -162,8 +162,9 @@ last_at (s ∷ t ∷ ss) zero d some = absurd (omega arith)
 last_at (s ∷ t ∷ ss) (suc j) d some = last_at (t ∷ ss) j d (omega arith)
 
 -- a segment with a view more, by its parts
-pub grown_segment : (s old : Segment) (v : ViewNo) → s.views ≡ old.views ++ v ∷ [] → s.works ≡ old.works → s.history ≡ old.history → s ≡ with_view old v
-grown_segment s old v views works history =
-    ap (λ (vs : List ViewNo). let t : Segment = record { views = vs; works = s.works; history = s.history } in t) views
-    ∙ ap (λ (ws : List ℕ). let t : Segment = record { views = old.views ++ v ∷ []; works = ws; history = s.history } in t) works
-    ∙ ap (λ (h : Option History). let t : Segment = record { views = old.views ++ v ∷ []; works = old.works; history = h } in t) history
+pub grown_segment : (s old : Segment) (v : ViewNo) → s.views ≡ old.views ++ v ∷ [] → s.works ≡ old.works → s.history ≡ old.history → s.flags ≡ old.flags → s ≡ with_view old v
+grown_segment s old v views works history flags =
+    ap (λ (vs : List ViewNo). let t : Segment = record { views = vs; works = s.works; history = s.history; flags = s.flags } in t) views
+    ∙ ap (λ (ws : List ℕ). let t : Segment = record { views = old.views ++ v ∷ []; works = ws; history = s.history; flags = s.flags } in t) works
+    ∙ ap (λ (h : Option History). let t : Segment = record { views = old.views ++ v ∷ []; works = old.works; history = h; flags = s.flags } in t) history
+    ∙ ap (λ (f : Option (Vec Bool Global)). let t : Segment = record { views = old.views ++ v ∷ []; works = old.works; history = old.history; flags = f } in t) flags

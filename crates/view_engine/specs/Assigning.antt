@@ -22,10 +22,10 @@ use Rattle.view_engine.specs.Engines.{segments_in, task_of, work_at, last_views,
 
 -- a segment of one view, which isn't stepped
 abbrev pub fresh : ViewNo → Segment
-fresh v = record { views = v ∷ []; works = []; history = None }
+fresh v = record { views = v ∷ []; works = []; history = None; flags = None }
 
 abbrev pub with_view : Segment → ViewNo → Segment
-with_view s v = record { views = s.views ++ v ∷ []; works = s.works; history = s.history }
+with_view s v = record { views = s.views ++ v ∷ []; works = s.works; history = s.history; flags = s.flags }
 
 -- the view in a segment of its own, or at the end of the last one
 abbrev pub put : Bool → List Segment → ViewNo → List Segment

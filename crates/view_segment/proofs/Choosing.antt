@@ -1,12 +1,16 @@
 -- The flags of a view's edges choose its arcs among those of all edges, and tell which edges two views don't share.
 use Rattle.std.proofs.Common.{◌≡◌, ◌∙◌, ◌<◌, ℕ, Bool, true, false, cond, List, [], ◌∷◌, Some, length, get_or, map, filter, sym, ap, subst, refl, arith, inl, inr}
-use Rattle.std.specs.Prelude.{◌≢◌, ◌&&◌, All, Contains}
+use Rattle.std.specs.Prelude.{◌≢◌, ◌⊎◌, ◌==◌, ◌&&◌, All, Contains}
 use Rattle.std.specs.List.{range_with_len}
 use Rattle.std.specs.List.Sorted.{IsPermutation}
-use Rattle.std.proofs.lemmas.Bool.{cases_lt}
+use Rattle.std.proofs.lemmas.Bool.{cases_lt, eqb-true}
+use Rattle.std.proofs.lemmas.Bool.Decides.{eqb_tells}
 use Rattle.std.proofs.lemmas.List.{get_or_past}
 use Rattle.std.proofs.lemmas.List.Elements.{All-filter, Contains-get_or, filter_agree}
-use Rattle.std.proofs.lemmas.List.FromFn.{get_or-map-range_with_len, length-map-range_with_len}
+use Rattle.std.proofs.Math.Bool.{and-true}
+use Rattle.std.proofs.lemmas.List.Folds.{list_any_at}
+use Rattle.std.proofs.lemmas.List.FromFn.{fill_by_all, get_or-map-range_with_len, length-map-range_with_len}
+use Rattle.std.proofs.lemmas.Map.Views.{any-filter_same}
 use Rattle.graph_model.specs.declared.number.EdgeNo.{EdgeNo}
 use Rattle.graph_model.specs.GraphData.{GraphData}
 use Rattle.vertex_lang.specs.declared.arc.Arc.{Arc}
@@ -19,7 +23,7 @@ use Rattle.round_kernel.specs.RowLists.{edge}
 use Rattle.round_kernel.specs.Sides.{arcs_in, in_view}
 use Rattle.round_kernel.specs.FilterLaws.{filter-permuted}
 use Rattle.round_kernel.specs.Steps.{AreOfAll, TellsAll}
-use Rattle.view_matrix.specs.Matrices.{MatrixData, bit_of, rule_bit_of, all_edges, edges_in, apart, differ}
+use Rattle.view_matrix.specs.Matrices.{MatrixData, bit_of, rule_bit_of, all_edges, edges_in, apart, differ, is_in}
 use Rattle.view_segment.specs.Steps.{flags_of}
 use Rattle.view_segment.proofs.Filters.{filter-parts}
 
@@ -35,6 +39,23 @@ flag-at m v e = elim (cases_lt e (length m.live)) [
 
 pub flags-count : (m : MatrixData) (v : ℕ) → length (flags_of m v) ≡ length m.live
 flags-count m v = length-map-range_with_len (λ k. bit_of m k v) 0 (length m.live)
+
+itself : (e : ℕ) → ((e == e) ≡ true) × (e ≡ e) ⊎ ((e == e) ≡ false) × (e ≢ e) → (e == e) ≡ true
+itself e (inl h) = h.0
+itself e (inr h) = absurd (h.1 refl)
+
+-- an edge is among those of the view where its bit is set
+among-by : (m : MatrixData) (v e : ℕ) → e < length m.live → is_in (edges_in m v) (edge e) ≡ bit_of m e v
+among-by m v e low =
+    any-filter_same (λ (x : EdgeNo). x.0 == e) (λ (x : EdgeNo). bit_of m x.0 v) (bit_of m e v) (λ x same. ap (λ k. bit_of m k v) (eqb-true x.0 e same)) (all_edges m)
+    ∙ ap (λ b. bit_of m e v && b) (list_any_at (λ (x : EdgeNo). x.0 == e) (all_edges m) e (edge e) (omega (arith, low, length-map-range_with_len edge 0 (length m.live)))
+    (ap (λ (x : EdgeNo). x.0 == e) (get_or-map-range_with_len edge 0 (length m.live) e e (edge e) low (omega arith)) ∙ itself e (eqb_tells e e)))
+    ∙ and-true (bit_of m e v)
+
+-- so the flags tell which edges are the view's
+pub flags-tell : (m : MatrixData) (v n : ℕ) → length m.live ≡ n → flags_of m v ≡ map (λ e. is_in (edges_in m v) (edge e)) (range_with_len 0 n)
+flags-tell m v n size =
+    fill_by_all (λ e. is_in (edges_in m v) (edge e)) (flags_of m v) n false (flags-count m v ∙ size) (λ e low. flag-at m v e ∙ sym (among-by m v e (omega (arith, low, size))))
 
 -- ---- the arcs of a view
 

@@ -1,5 +1,8 @@
 -- One view more: which one was stepped last, and the works.
-use Rattle.std.proofs.Common.{◌≡◌, ◌∙◌, ◌<◌, ◌≤◌, ◌+◌, ◌-◌, ◌++◌, ℕ, zero, suc, List, [], ◌∷◌, Option, Some, None, length, get_or, take, sym, ap, subst, refl, arith}
+use Rattle.std.proofs.Common.{Vec, Global, Bool, true, false, ◌≡◌, ◌∙◌, ◌<◌, ◌≤◌, ◌+◌, ◌-◌, ◌++◌, ℕ, zero, suc, List, [], ◌∷◌, Option, Some, None, length, get_or, take, sym, ap, subst, refl, arith}
+use Rattle.std.specs.Prelude.{IfSome, ltb}
+use Rattle.std.specs.Bool.{then_some}
+use Rattle.std.proofs.lemmas.Bool.{le-ltb}
 use Rattle.std.proofs.lemmas.List.{take_more, get_or-map, length-append}
 use Rattle.std.proofs.lemmas.Option.{slice_get-get_or}
 use Rattle.graph_model.specs.declared.number.ViewNo.{ViewNo}
@@ -9,12 +12,12 @@ use Rattle.round_kernel.specs.Histories.{IsHistory}
 use Rattle.view_order.specs.Greedy.{numbers}
 use Rattle.round_kernel.specs.declared.step.Stepped.{Stepped}
 use Rattle.view_segment.specs.declared.segment.Segment.{Segment}
-use Rattle.view_segment.specs.Segments.{last_of, HistoryOf, last_stepped, place_of, SegmentStands, IsGiven}
+use Rattle.view_segment.specs.Segments.{last_of, HistoryOf, FlagsOf, view_flags, last_stepped, place_of, SegmentStands, IsGiven}
 use Rattle.view_segment.specs.Steps.{IsStep}
 use Rattle.view_segment.specs.Tasks.{Task, view_arcs, work_of, works_from, works_of}
 
 -- no view in particular
-abbrev nothing : ViewNo
+abbrev pub nothing : ViewNo
 nothing = record { 0 = 0 }
 
 abbrev value : Option ℕ → ℕ
@@ -80,6 +83,14 @@ some-before task s h views k stands e ev ek =
     let told = last ∙ ap (λ (u : ℕ). Some u) same in
     (told, subst (λ u. IsHistory task.answer task.program task.graph (Some (view_arcs task u)) (number_of task.rounds) h) (ap value (sym found.1 ∙ told)) found.2)
 
+-- flags that are kept are those of the view that was stepped last
+pub kept-before : (task : Task) (s : Segment) (u : ℕ) (kept : Option (Vec Bool Global)) (told : List Bool) → SegmentStands task s → last_stepped s ≡ Some u → kept ≡ s.flags → told ≡ view_flags task u
+    → IfSome kept (λ flags. flags.items ≡ told)
+kept-before task s u kept told stands last same e =
+    let held : IfSome s.flags (λ flags. flags.items ≡ view_flags task u) = subst (λ (o : Option ℕ). IfSome s.flags (λ (flags : Vec Bool Global). FlagsOf task o flags.items)) last stands.flags in
+    subst (λ (bs : List Bool). IfSome kept (λ (flags : Vec Bool Global). flags.items ≡ bs)) (sym e)
+    (subst (λ (o : Option (Vec Bool Global)). IfSome o (λ (flags : Vec Bool Global). flags.items ≡ view_flags task u)) (sym same) held)
+
 -- ---- one view more
 
 works-from : (task : Task) (before : Option ℕ) (vs : List ℕ) (w : ℕ) → works_from task before (vs ++ w ∷ []) ≡ works_from task before vs ++ work_of task (last_from before vs) w ∷ []
@@ -101,20 +112,43 @@ module _ (task : Task) (s : Segment) (views : List ViewNo) (k : ℕ) (ev : views
   next-is : get_or views k nothing ≡ get_or s.views (length s.works) nothing
   next-is = ap (λ (vs : List ViewNo). get_or vs k nothing) ev ∙ ap (λ j. get_or s.views j nothing) ek
 
-  pub stands-more : (t : Stepped) (works : List ℕ) → SegmentStands task s → IsStep task (last_stepped s) (get_or views k nothing).0 t → works ≡ s.works ++ t.work ∷ []
-      → SegmentStands task (record { views = s.views; works = works; history = Some t.history })
-  stands-more t works stands step e =
+  -- flags of the view that are kept, and none once each view was stepped
+  pub record AreKept (works : List ℕ) (kept : Option (Vec Bool Global)) : Type 0 where
+    pub some : IfSome kept (λ flags. flags.items ≡ view_flags task (get_or views k nothing).0)
+    pub done : length works ≡ length s.views → kept ≡ None
+
+  kept-if : (b : Bool) (flags : Vec Bool Global) (told : List Bool) → flags.items ≡ told → IfSome (then_some b flags) (λ held. held.items ≡ told)
+  kept-if true flags told e = e
+  kept-if false flags told e = tt
+
+  -- flags that are kept only while there is a view that was not stepped yet
+  pub are-kept : (works : List ℕ) (flags : Vec Bool Global) (kept : Option (Vec Bool Global)) (few many : ℕ) → few ≡ length works → many ≡ length s.views → kept ≡ then_some (ltb few many) flags
+      → flags.items ≡ view_flags task (get_or views k nothing).0 → AreKept works kept
+  are-kept works flags kept few many ef em e is = record {
+    some = subst (λ (o : Option (Vec Bool Global)). IfSome o (λ (held : Vec Bool Global). held.items ≡ view_flags task (get_or views k nothing).0)) (sym e)
+        (kept-if (ltb few many) flags (view_flags task (get_or views k nothing).0) is);
+    done = λ all. e ∙ ap (λ (b : Bool). then_some b flags) (le-ltb few many (omega (arith, ef, em, all)));
+  }
+
+  pub stands-more : (t : Stepped) (works : List ℕ) (kept : Option (Vec Bool Global)) (now : List ViewNo) → SegmentStands task s → IsStep task (last_stepped s) (get_or views k nothing).0 t → works ≡ s.works ++ t.work ∷ []
+      → AreKept works kept → now ≡ s.views → SegmentStands task (record { views = now; works = works; history = Some t.history; flags = kept })
+  stands-more t works kept now stands step e are same =
       let n = length s.works in
       let w = (get_or s.views n nothing).0 in
       let before = take n (numbers s.views) in
       let made : IsStep task (last_of before) w t = subst (λ (v : ViewNo). IsStep task (last_of before) v.0 t) next-is step in
       let count : length works ≡ n + 1 = ap (λ (ns : List ℕ). length ns) e ∙ length-append s.works (t.work ∷ []) in
       let after : take (length works) (numbers s.views) ≡ before ++ w ∷ [] = ap (λ m. take m (numbers s.views)) count ∙ numbers-more s.views n nothing low in
-      record {
+      let last : last_of (take (length works) (numbers s.views)) ≡ Some w = ap (λ (vs : List ℕ). last_of vs) after ∙ last-added before w in
+      subst (λ (vs : List ViewNo). SegmentStands task (record { views = vs; works = works; history = Some t.history; flags = kept })) (sym same) (record {
         few = omega (arith, low, count);
         works = e ∙ ap (λ (ns : List ℕ). ns ++ t.work ∷ []) stands.works ∙ ap (λ (m : ℕ). works_of task before ++ m ∷ []) made.work ∙ sym (works-more task before w) ∙ ap (λ (vs : List ℕ). works_of task vs) (sym after);
-        history = subst (λ (o : Option ℕ). HistoryOf task o (Some t.history)) (sym (ap (λ (vs : List ℕ). last_of vs) after ∙ last-added before w)) made.history;
-      }
+        history = subst (λ (o : Option ℕ). HistoryOf task o (Some t.history)) (sym last) made.history;
+        flags =
+            subst (λ (o : Option ℕ). IfSome kept (λ (flags : Vec Bool Global). FlagsOf task o flags.items)) (sym last)
+            (subst (λ (v : ViewNo). IfSome kept (λ (flags : Vec Bool Global). flags.items ≡ view_flags task v.0)) next-is are.some);
+        done = are.done;
+      })
 
   pub given-by : (t : Stepped) (before : Option ViewNo) → IsStep task (last_stepped s) (get_or views k nothing).0 t → place_of before ≡ last_stepped s
       → IsGiven task s (record { view = get_or views k nothing; before = before; outcome = t.outcome; change = t.change })

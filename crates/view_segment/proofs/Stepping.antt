@@ -1,6 +1,5 @@
 -- What the kernel gives of the arcs that the flags choose, it gives of the views.
 use Rattle.std.proofs.Common.{◌≡◌, ◌∙◌, ℕ, Bool, List, Some, None, sym, ap, subst}
-use Rattle.std.specs.Prelude.{Result, Ok, Err, IfOk}
 use Rattle.std.specs.List.Sorted.{IsPermutation}
 use Rattle.std.proofs.lemmas.List.Sorted.{IsPermutation-sym}
 use Rattle.graph_model.specs.declared.value.Val.{Val}
@@ -21,11 +20,6 @@ use Rattle.view_segment.specs.Steps.{flags_of, IsSetting, IsStep, task_in}
 use Rattle.view_segment.specs.Tasks.{view_arcs}
 use Rattle.view_segment.proofs.Choosing.{view-chosen}
 use Rattle.view_segment.proofs.Transport.{history-permuted, work-permuted}
-
--- what is said of a value by five facts follows from them, where there is one
-pub ok-by : {A E : Type 0} (P Q R S T : A → Type 0) → ((a : A) → P a → Q a → R a → S a → T a) → (r : Result A E) → IfOk r P → IfOk r Q → IfOk r R → IfOk r S → IfOk r T
-ok-by P Q R S T f (Ok a) p q r s = f a p q r s
-ok-by P Q R S T f (Err e) p q r s = tt
 
 module _ (answer : Answer) (s : Setting) (rows : Rows) (is : IsSetting s rows) where
   -- the arcs of the view, in another order

@@ -1,5 +1,7 @@
 -- What a segment holds.
-use Rattle.std.specs.Prelude.{◌≡◌, ◌≤◌, ℕ, ⊤, List, [], ◌∷◌, length, take, slice_get, Option, Some, None}
+use Rattle.std.specs.Prelude.{◌≡◌, ◌≤◌, ℕ, ⊤, Bool, List, [], ◌∷◌, length, map, take, slice_get, Option, Some, None, IfSome}
+use Rattle.std.specs.List.{range_with_len}
+use Rattle.edge_predicates.specs.ViewEdges.{edge}
 use Rattle.graph_model.specs.declared.number.ViewNo.{ViewNo}
 use Rattle.graph_model.specs.declared.value.Val.{Val}
 use Rattle.vertex_lang.specs.Lone.{number_of}
@@ -7,6 +9,7 @@ use Rattle.vertex_lang.specs.Rounds.{lone}
 use Rattle.round_kernel.specs.declared.history.Change.{Change}
 use Rattle.round_kernel.specs.declared.history.History.{History}
 use Rattle.round_kernel.specs.Histories.{IsHistory, all_from, changes_from}
+use Rattle.view_matrix.specs.Matrices.{is_in}
 use Rattle.view_order.specs.Greedy.{numbers}
 use Rattle.view_segment.specs.declared.segment.Segment.{Segment}
 use Rattle.view_segment.specs.declared.segment.Given.{Given}
@@ -37,11 +40,23 @@ HistoryOf task None (Some h) = ⊥
 HistoryOf task (Some v) None = ⊥
 HistoryOf task (Some v) (Some h) = IsHistory task.answer task.program task.graph (Some (view_arcs task v)) (number_of task.rounds) h
 
--- what a segment holds is what its task says
+-- of each edge of the graph whether it is in the view
+abbrev pub view_flags : Task → ℕ → List Bool
+view_flags task v = map (λ e. is_in (task.edges v) (edge e)) (range_with_len 0 (length task.graph.ends))
+
+-- these flags are those of this view, and there are none where there is no view
+abbrev pub FlagsOf : Task → Option ℕ → List Bool → Type 0
+FlagsOf task None flags = ⊥
+FlagsOf task (Some v) flags = flags ≡ view_flags task v
+
+-- What a segment holds is what its task says. Flags that it keeps are those of the view that was stepped last, and once
+-- each view was stepped it keeps none.
 pub record SegmentStands (task : Task) (s : Segment) : Type 0 where
   pub few : length s.works ≤ length s.views
   pub works : s.works ≡ works_of task (stepped s)
   pub history : HistoryOf task (last_stepped s) s.history
+  pub flags : IfSome s.flags (λ kept. FlagsOf task (last_stepped s) kept.items)
+  pub done : IsFinished s → s.flags ≡ None
 
 -- ---- a step
 

@@ -9,7 +9,7 @@ ghost use Rattle.round_kernel.specs.Steps.{AreOfAll};
 ghost use Rattle.view_matrix.specs.Matrices.{IsView};
 ghost use Rattle.view_segment.specs.Tasks.{task_over, work_of};
 ghost use Rattle.view_segment.specs.Segments.{last_stepped, place_of, SegmentStands, IsGiven};
-ghost use Rattle.view_segment.specs.Steps.{IsSetting, IsStep, task_in};
+ghost use Rattle.view_segment.specs.Steps.{IsSetting, IsStep, flags_of, task_in};
 
 use crate::step::{Setting, step_first, step_later};
 use graph_model::{Graph, ViewNo};
@@ -20,11 +20,14 @@ use vertex_lang::{Outcome, Program, Rounds, Updater};
 use view_matrix::Matrix;
 
 /// Views that are run one after the other. Of the last one that was stepped its history is kept, and of each its work.
+/// While there is a view that was not stepped yet, `flags` may tell of each edge whether it is in the view that was stepped
+/// last; else there is nothing.
 #[derive(Debug, Drop)]
 pub struct Segment {
     views: List<ViewNo>,
     works: List<u64>,
     history: Option<History>,
+    flags: Option<Vec<bool>>,
 }
 
 /// What the step of a view gives.
@@ -46,11 +49,13 @@ impl Segment {
         ensures views { result.views ≡ [] }
         ensures works { result.works ≡ [] }
         ensures history { result.history ≡ None }
+        ensures flags { result.flags ≡ None }
     {
         Segment {
             views: List::new(alloc),
             works: List::new(alloc),
             history: None,
+            flags: None,
         }
     }
 
@@ -59,6 +64,7 @@ impl Segment {
         ensures views { OnOk result (self.new.views ≡ self.old.views ++ (view ∷ [])) }
         ensures works { self.new.works ≡ self.old.works }
         ensures history { self.new.history ≡ self.old.history }
+        ensures flags { self.new.flags ≡ self.old.flags }
         ensures err { OnErr result (self.new ≡ self.old) }
     {
         self.views.push(view)
@@ -114,7 +120,7 @@ impl Segment {
             matrix,
         };
         let view = self.views.as_slice()[self.works.len()];
-        let (before, stepped) = self.step_view(alloc, setting, rows, view, updater)?;
+        let (before, stepped, flags) = self.step_view(alloc, setting, rows, view, updater)?;
         let Stepped {
             history,
             outcome,
@@ -123,6 +129,8 @@ impl Segment {
         } = stepped;
         self.works.push(work)?;
         self.history = Some(history);
+        let unfinished = self.works.len() < self.views.len();
+        self.flags = unfinished.then_some(flags);
         Ok(Given {
             view,
             before,
@@ -131,34 +139,41 @@ impl Segment {
         })
     }
 
-    // Steps a view behind the last one that was stepped. The answer tells which one that is, if there is one.
+    // Steps a view behind the last one that was stepped, and uses up the flags that are kept of that one. The answer tells
+    // which one that is, if there is one, and the flags of the view.
     fn step_view<U: Updater>(
-        &self,
+        &mut self,
         alloc: Global,
         setting: Setting<'_>,
         rows: &mut Rows,
         view: ViewNo,
         updater: &mut U,
-    ) -> Result<(Option<ViewNo>, Stepped), NoMemory>
+    ) -> Result<(Option<ViewNo>, Stepped, Vec<bool>), NoMemory>
         requires setting { IsSetting setting rows.old }
-        requires views { All (IsView setting.matrix.now) self.now.views }
+        requires views { All (IsView setting.matrix.now) self.old.views }
         requires view { IsView setting.matrix.now view }
-        requires stands { SegmentStands (task_in U.answer setting) self.now }
+        requires stands { SegmentStands (task_in U.answer setting) self.old }
         ensures rows { OnOk result (AreRows setting.entry.graph.now rows.new) }
         ensures arcs { rows.new.by_head ≡ rows.old.by_head }
-        ensures before { IfOk result (λ made. place_of made.0 ≡ last_stepped self.now) }
-        ensures step { IfOk result (λ made. IsStep (task_in U.answer setting.entry) (last_stepped self.now) view.0 made.1) }
+        ensures before { IfOk result (λ made. place_of made.0 ≡ last_stepped self.old) }
+        ensures step { IfOk result (λ made. IsStep (task_in U.answer setting.entry) (last_stepped self.old) view.0 made.1) }
+        ensures flags { IfOk result (λ made. made.2.items ≡ flags_of setting.entry.matrix.now view.0) }
+        ensures views { self.new.views ≡ self.old.views }
+        ensures works { self.new.works ≡ self.old.works }
         ensures calls { IfOk result (λ made. U.calls updater.new ≡ U.calls updater.old + made.1.work) }
     {
+        let kept = self.flags.take();
         match &self.history {
             None => {
-                let stepped = step_first(alloc, setting, rows, view, updater)?;
-                Ok((None, stepped))
+                let (stepped, flags) = step_first(alloc, setting, rows, view, updater)?;
+                Ok((None, stepped, flags))
             }
             Some(history) => {
                 let before = self.views.as_slice()[self.works.len() - 1];
-                let stepped = step_later(alloc, setting, rows, before, history, view, updater)?;
-                Ok((Some(before), stepped))
+                let (stepped, flags) = step_later(
+                    alloc, setting, rows, before, history, kept, view, updater,
+                )?;
+                Ok((Some(before), stepped, flags))
             }
         }
     }

@@ -1,6 +1,6 @@
 //! The step of one view.
 
-ghost use Rattle.std.specs.Prelude.{◌≡◌, ◌<◌, ◌+◌, length, All, Some, None, IfOk, OnOk};
+ghost use Rattle.std.specs.Prelude.{◌≡◌, ◌<◌, ◌+◌, length, All, Some, None, IfOk, IfSome, OnOk};
 ghost use Rattle.vertex_lang.specs.Lone.{number_of, answer_of};
 ghost use Rattle.vertex_lang.specs.Rounds.{lone};
 ghost use Rattle.lone_work.specs.Work.{work};
@@ -10,9 +10,9 @@ ghost use Rattle.round_kernel.specs.Sides.{arcs_in};
 ghost use Rattle.round_kernel.specs.Steps.{TellsAll};
 ghost use Rattle.view_matrix.specs.Matrices.{IsView};
 ghost use Rattle.view_segment.specs.Tasks.{view_arcs};
-ghost use Rattle.view_segment.specs.Steps.{IsSetting, IsStep, task_in};
+ghost use Rattle.view_segment.specs.Steps.{IsSetting, IsStep, flags_of, task_in};
 
-use crate::flags::{turned_edges, turned_flags};
+use crate::flags::{known_flags, turned_edges, turned_flags};
 use graph_model::{EdgeNo, Graph, ViewNo};
 use round_kernel::{History, Rows, Stepped, first_step, next_step};
 use std::alloc::Global;
@@ -29,51 +29,57 @@ pub(crate) struct Setting<'a> {
     pub(crate) matrix: &'a Matrix,
 }
 
-/// Steps a view that none stands before. The error is want of memory.
+/// Steps a view that none stands before. The answer has its flags beside. The error is want of memory.
 pub(crate) fn step_first<U: Updater>(
     alloc: Global,
     setting: Setting<'_>,
     rows: &mut Rows,
     view: ViewNo,
     updater: &mut U,
-) -> Result<Stepped, NoMemory>
+) -> Result<(Stepped, Vec<bool>), NoMemory>
     requires setting { IsSetting setting rows.old }
     requires view { IsView setting.matrix.now view }
-    ensures step { IfOk result (IsStep (task_in U.answer setting.entry) None view.0) }
+    ensures step { IfOk result (λ made. IsStep (task_in U.answer setting.entry) None view.0 made.0) }
+    ensures flags { IfOk result (λ made. made.1.items ≡ flags_of setting.entry.matrix.now view.0) }
     ensures rows { OnOk result (AreRows setting.entry.graph.now rows.new) }
     ensures arcs { rows.new.by_head ≡ rows.old.by_head }
-    ensures calls { IfOk result (λ s. U.calls updater.new ≡ U.calls updater.old + s.work) }
+    ensures calls { IfOk result (λ made. U.calls updater.new ≡ U.calls updater.old + made.0.work) }
 {
     let few = are_few(setting.graph, setting.matrix.size(view));
     let edges = setting.matrix.flags(alloc, view)?;
-    first_within(alloc, setting, rows, few, &edges, updater)
+    let stepped = first_within(alloc, setting, rows, few, &edges, updater)?;
+    Ok((stepped, edges))
 }
 
-/// Steps a view behind another one, given the history of that one. The error is want of memory.
+/// Steps a view behind another one, given the history of that one and its flags where they are kept. The answer has those
+/// of the view beside. The error is want of memory.
 pub(crate) fn step_later<U: Updater>(
     alloc: Global,
     setting: Setting<'_>,
     rows: &mut Rows,
     before: ViewNo,
     history: &History,
+    kept: Option<Vec<bool>>,
     view: ViewNo,
     updater: &mut U,
-) -> Result<Stepped, NoMemory>
+) -> Result<(Stepped, Vec<bool>), NoMemory>
     requires setting { IsSetting setting rows.old }
     requires before { IsView setting.matrix.now before }
     requires view { IsView setting.matrix.now view }
     requires history { IsHistory U.answer setting.program.now setting.graph.now (Some (view_arcs (task_in U.answer setting) before.0)) (number_of setting.rounds) history.now }
-    ensures step { IfOk result (IsStep (task_in U.answer setting.entry) (Some before.0) view.0) }
+    requires kept { IfSome kept (λ flags. flags.items ≡ flags_of setting.matrix.now before.0) }
+    ensures step { IfOk result (λ made. IsStep (task_in U.answer setting.entry) (Some before.0) view.0 made.0) }
+    ensures flags { IfOk result (λ made. made.1.items ≡ flags_of setting.entry.matrix.now view.0) }
     ensures rows { OnOk result (AreRows setting.entry.graph.now rows.new) }
     ensures arcs { rows.new.by_head ≡ rows.old.by_head }
-    ensures calls { IfOk result (λ s. U.calls updater.new ≡ U.calls updater.old + s.work) }
+    ensures calls { IfOk result (λ made. U.calls updater.new ≡ U.calls updater.old + made.0.work) }
 {
     let turned = turned_edges(alloc, setting.matrix, before, view)?;
     let twice = setting.matrix.size(before) + setting.matrix.size(view) + turned.len() as u64;
     let few = are_few(setting.graph, twice / 2);
-    let old = setting.matrix.flags(alloc, before)?;
+    let old = known_flags(alloc, setting.matrix, kept, before)?;
     let new = turned_flags(alloc, &old, turned.as_slice())?;
-    next_within(
+    let stepped = next_within(
         alloc,
         setting,
         rows,
@@ -83,7 +89,8 @@ pub(crate) fn step_later<U: Updater>(
         &new,
         turned.as_slice(),
         updater,
-    )
+    )?;
+    Ok((stepped, new))
 }
 
 // Whether so many edges are less than half of those of the graph: then their arcs are filtered first, since a step goes

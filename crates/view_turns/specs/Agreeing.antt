@@ -1,7 +1,7 @@
 -- An engine that stands for a matrix stands for each other one in which its views have the same edges.
-use Rattle.std.specs.Prelude.{◌≡◌, ℕ, ◌+◌, ◌<◌, zero, suc, ⊤, Bool, true, false, List, [], ◌∷◌, ◌++◌, length, map, get_or, take, fold, All, if◌then◌else◌, Option, Some, None, refl}
-use Rattle.std.proofs.Common.{sym, ap, ap₂, subst, ◌∙◌, arith}
-use Rattle.std.proofs.lemmas.List.{length-map}
+use Rattle.std.specs.Prelude.{◌≡◌, ℕ, ◌+◌, zero, suc, ⊤, Bool, true, false, List, [], ◌∷◌, ◌++◌, length, map, get_or, take, fold, All, if◌then◌else◌, Option, Some, None, IfSome, refl}
+use Rattle.std.specs.List.{range_with_len}
+use Rattle.std.proofs.Common.{Vec, Global, sym, ap, ap₂, subst, ◌∙◌, arith}
 use Rattle.std.proofs.lemmas.List.Elements.{All-take, All-append}
 use Rattle.graph_model.specs.declared.number.EdgeNo.{EdgeNo}
 use Rattle.graph_model.specs.declared.number.ViewNo.{ViewNo}
@@ -16,20 +16,21 @@ use Rattle.vertex_lang.specs.Expressions.{Answer}
 use Rattle.vertex_lang.specs.Lone.{number_of, answer_of}
 use Rattle.vertex_lang.specs.Rounds.{lone}
 use Rattle.lone_work.specs.Work.{work}
+use Rattle.edge_predicates.specs.ViewEdges.{edge}
 use Rattle.round_kernel.specs.declared.history.History.{History}
 use Rattle.round_kernel.specs.Histories.{IsHistory}
 use Rattle.segment_split.specs.declared.SplitRule.{SplitRule}
 use Rattle.segment_split.specs.declared.SplitRule.TheVariants as split
 use Rattle.segment_split.specs.declared.Counts.{Counts}
 use Rattle.segment_split.specs.Rule.{starts_new}
-use Rattle.view_matrix.specs.Matrices.{MatrixData, IsView, edges_in, in_exactly_one}
+use Rattle.view_matrix.specs.Matrices.{MatrixData, IsView, edges_in, in_exactly_one, is_in}
 use Rattle.result_tables.specs.Results.{ResultsData}
 use Rattle.view_order.specs.Greedy.{numbers}
 use Rattle.view_segment.specs.declared.segment.Segment.{Segment}
-use Rattle.view_segment.specs.Segments.{SegmentStands, HistoryOf, last_of, last_stepped, stepped, last_values}
-use Rattle.view_segment.specs.Tasks.{Task, task_over, view_arcs, arcs_before, lone_of, work_of, works_from, works_of}
+use Rattle.view_segment.specs.Segments.{SegmentStands, HistoryOf, FlagsOf, last_of, last_stepped, stepped, last_values}
+use Rattle.view_segment.specs.Tasks.{Task, view_arcs, arcs_before, lone_of, work_of, works_from, works_of}
 use Rattle.view_engine.specs.declared.engine.Engine.{Engine}
-use Rattle.view_engine.specs.Engines.{Stands, HoldsView, KeepsLater, last_views, segments_in, assigned_in, task_of}
+use Rattle.view_engine.specs.Engines.{Stands, HoldsView, KeepsLater, last_views, segments_in, assigned_in}
 use Rattle.view_engine.specs.Splits.{edges_before, difference, differences, first_number, later_sum, first_edges, later_edges, counts_of, with_next, segments_of}
 
 -- ---- lists
@@ -180,6 +181,11 @@ module _ (answer : Answer) (program : Program) (g : GraphData) (rounds : Rounds)
   history_by (Some v) None hb is = is
   history_by (Some v) (Some x) hb is = subst (λ (arcs : List Arc). IsHistory answer program g (Some arcs) (number_of rounds) x) (same_arcs v hb) is
 
+  flags_by : (b : Option ℕ) (kept : Option (Vec Bool Global)) → SameBefore b → IfSome kept (λ flags. FlagsOf t b flags.items) → IfSome kept (λ flags. FlagsOf u b flags.items)
+  flags_by b None hb are = tt
+  flags_by None (Some flags) hb are = are
+  flags_by (Some v) (Some flags) hb are = are ∙ ap (λ (edges : List EdgeNo). map (λ e. is_in edges (edge e)) (range_with_len 0 (length g.ends))) hb
+
   same_stands : (s : Segment) → All Same (numbers s.views) → SegmentStands t s → SegmentStands u s
   same_stands s all stands =
       let done : All Same (stepped s) = All-take Same (length s.works) (numbers s.views) all in
@@ -187,6 +193,8 @@ module _ (answer : Answer) (program : Program) (g : GraphData) (rounds : Rounds)
         few = stands.few;
         works = stands.works ∙ same_works (stepped s) done;
         history = history_by (last_stepped s) s.history (same_last (stepped s) done) stands.history;
+        flags = flags_by (last_stepped s) s.flags (same_last (stepped s) done) stands.flags;
+        done = stands.done;
       }
 
   same_holds : (results : ResultsData) (v : ViewNo) → Same v.0 → HoldsView t results v → HoldsView u results v

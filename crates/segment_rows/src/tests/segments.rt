@@ -41,6 +41,7 @@ fn whole(alloc: Global, matrix: &Matrix) -> Result<Segment, NoMemory>
     ensures views { IfOk result (λ segment. All (IsView matrix.now) segment.views) }
     ensures works { IfOk result (λ segment. segment.works ≡ []) }
     ensures history { IfOk result (λ segment. segment.history ≡ None) }
+    ensures flags { IfOk result (λ segment. segment.flags ≡ None) }
 {
     let mut segment = Segment::new(alloc);
     for view in 0..matrix.views() {

@@ -16,6 +16,6 @@ returns-in_ok-add c =
     let ss = c.args.segments.now.items in
     let old = c.index_mut.result.now in
     let some : length ss ≡ suc (c.len-last.result - 1) = omega (arith, c.len-last.ensures, c.requires c.if-anew.false) in
-    let more = grown_segment c.add.new.self old c.args.view c.in_ok-add.ensures.views c.in_ok-add.ensures.works c.in_ok-add.ensures.history in
+    let more = grown_segment c.add.new.self old c.args.view c.in_ok-add.ensures.views c.in_ok-add.ensures.works c.in_ok-add.ensures.history c.in_ok-add.ensures.flags in
     put_set c.args.view ss (c.len-last.result - 1) c.add.new.self old some (more ∙ ap (λ (t : Segment). with_view t c.args.view) c.index_mut.ensures.value)
     ∙ ap (λ (b : Bool). put b ss c.args.view) (sym c.if-anew.false)

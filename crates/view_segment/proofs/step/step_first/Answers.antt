@@ -1,6 +1,6 @@
 use Rattle.std.proofs.Common.{◌∙◌, Bool, List, length, ap}
 use Rattle.view_segment.proofs.Choosing.{flags-count}
-use Rattle.view_segment.proofs.Stepping.{ok-by, first-given}
+use Rattle.view_segment.proofs.Stepping.{first-given}
 use Rattle.view_segment.proofs.step.step_first.Goals as goal
 
 pub first_within-requires-clause-edges : goal.first_within-requires-clause-edges
@@ -8,6 +8,7 @@ first_within-requires-clause-edges g c =
     ap (λ (bs : List Bool). length bs) (c.deref.ensures.value ∙ c.in_ok-edges.ensures) ∙ flags-count c.args.setting.matrix.now c.args.view.0 ∙ c.requires.setting.matrix
 
 pub returns-clause-step : goal.returns-clause-step
-returns-clause-step g c = ok-by _ _ _ _ _ (λ t history outcome change work.
-    first-given g.U.Updater.answer c.args.setting c.args.rows.now c.requires.setting c.args.view.0 c.deref.result.now (c.deref.ensures.value ∙ c.in_ok-edges.ensures) t history outcome change work)
-    c.first_within.result c.first_within.ensures.history c.first_within.ensures.outcome c.first_within.ensures.change c.first_within.ensures.work
+returns-clause-step g c =
+    let step = c.in_ok-stepped.ensures in
+    first-given g.U.Updater.answer c.args.setting c.args.rows.now c.requires.setting c.args.view.0 c.deref.result.now (c.deref.ensures.value ∙ c.in_ok-edges.ensures) c.in_ok-stepped.stepped
+    step.history step.outcome step.change step.work

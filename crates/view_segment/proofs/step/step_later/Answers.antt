@@ -4,7 +4,7 @@ use Rattle.graph_model.specs.declared.number.EdgeNo.{EdgeNo}
 use Rattle.round_kernel.specs.Steps.{TellsAll}
 use Rattle.view_matrix.specs.Matrices.{apart}
 use Rattle.view_segment.proofs.Choosing.{flags-count, apart-tells, apart-within}
-use Rattle.view_segment.proofs.Stepping.{ok-by, later-given, history-before}
+use Rattle.view_segment.proofs.Stepping.{later-given, history-before}
 use Rattle.view_segment.proofs.Turning.{turned-by}
 use Rattle.view_segment.specs.Steps.{flags_of}
 use Rattle.view_segment.proofs.step.step_later.Goals as goal
@@ -58,7 +58,10 @@ returns-clause-step g c =
     let u = c.args.before.0 in
     let v = c.args.view.0 in
     let new = turned-by m u v c.deref.result.now c.in_ok-new.new.items c.as_slice.result.now (c.deref.ensures.value ∙ c.in_ok-old.ensures) (c.as_slice.ensures ∙ c.in_ok-turned.ensures) c.in_ok-new.ensures in
-    ok-by _ _ _ _ _ (λ t history outcome change work.
-    later-given g.U.Updater.answer c.args.setting c.args.rows.now c.requires.setting c.args.view.0 c.deref-3.result.now (c.deref-3.ensures.value ∙ new) t history outcome
-    c.args.before.0 c.deref-2.result.now (c.deref-2.ensures.value ∙ c.in_ok-old.ensures) change work)
-    c.next_within.result c.next_within.ensures.history c.next_within.ensures.outcome c.next_within.ensures.change c.next_within.ensures.work
+    let step = c.in_ok-stepped.ensures in
+    later-given g.U.Updater.answer c.args.setting c.args.rows.now c.requires.setting c.args.view.0 c.deref-3.result.now (c.deref-3.ensures.value ∙ new) c.in_ok-stepped.stepped step.history step.outcome
+    c.args.before.0 c.deref-2.result.now (c.deref-2.ensures.value ∙ c.in_ok-old.ensures) step.change step.work
+
+pub returns-clause-flags : goal.returns-clause-flags
+returns-clause-flags g c =
+    turned-by c.args.setting.matrix.now c.args.before.0 c.args.view.0 c.deref.result.now c.in_ok-new.new.items c.as_slice.result.now (c.deref.ensures.value ∙ c.in_ok-old.ensures) (c.as_slice.ensures ∙ c.in_ok-turned.ensures) c.in_ok-new.ensures

@@ -8,4 +8,5 @@ invariant-loop-view l = record {
   views : All (IsView l.matrix) l.segment.views;
   works : l.segment.works ≡ [];
   history : l.segment.history ≡ None;
+  flags : l.segment.flags ≡ None;
 }

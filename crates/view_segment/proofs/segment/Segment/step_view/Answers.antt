@@ -1,11 +1,20 @@
-use Rattle.std.proofs.Common.{ℕ, Option, sym, subst}
-use Rattle.view_segment.specs.Steps.{IsStep, task_in}
-use Rattle.view_segment.proofs.Lasting.{some-before}
+use Rattle.std.proofs.Common.{◌-◌, ℕ, Option, length, get_or, sym, subst}
+use Rattle.view_segment.specs.Steps.{IsStep, flags_of, task_in}
+use Rattle.view_segment.proofs.Choosing.{flags-tell}
+use Rattle.view_segment.proofs.Lasting.{nothing, some-before, kept-before}
 use Rattle.view_segment.proofs.segment.Segment.step_view.Goals as goal
 
 pub step_later-requires-clause-history : goal.step_later-requires-clause-history
 step_later-requires-clause-history g c =
     (some-before (task_in g.U.Updater.answer c.args.setting) c.args.self.now c.in-Some.history c.as_slice.result.now c.len.result c.requires.stands c.in-Some.is c.as_slice.ensures c.len.ensures).1
+
+pub step_later-requires-clause-kept : goal.step_later-requires-clause-kept
+step_later-requires-clause-kept g c =
+    let s = c.args.setting in
+    let task = task_in g.U.Updater.answer s in
+    let last = (some-before task c.args.self.now c.in-Some.history c.as_slice.result.now c.len.result c.requires.stands c.in-Some.is c.as_slice.ensures c.len.ensures).0 in
+    let u = (get_or c.as_slice.result.now (c.len.result - 1) nothing).0 in
+    kept-before task c.args.self.now u c.take-kept.result (flags_of s.matrix.now u) c.requires.stands last c.take-kept.ensures.value (flags-tell s.matrix.now u (length s.graph.now.ends) c.requires.setting.matrix)
 
 pub returns-in_ok-stepped-in-Some-clause-before : goal.returns-in_ok-stepped-in-Some-clause-before
 returns-in_ok-stepped-in-Some-clause-before g c =
