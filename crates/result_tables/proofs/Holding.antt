@@ -1,5 +1,5 @@
 -- What entries say, one after the other.
-use Rattle.std.proofs.Common.{◌≡◌, ◌∙◌, ℕ, zero, suc, ◌+◌, ◌<◌, ◌≤◌, ◌==◌, Bool, true, false, not, cond, nat_lt, List, [], ◌∷◌, ◌++◌, length, map, get_or, slice_get, fold, set, Option, Some, None, All, find, position, refl, sym, ap, subst, arith, length-append, length-set, ltb-true, ltb-false, append_assoc, append-nil, is_some, Vec, Global, ◌⊎◌, inl, inr, true≢false, option_map, take, drop, drop_of_length-le, take_all}
+use Rattle.std.proofs.Common.{◌≡◌, ◌∙◌, ℕ, zero, suc, ◌+◌, ◌<◌, ◌≤◌, ◌==◌, Bool, true, false, not, cond, nat_lt, List, [], ◌∷◌, ◌++◌, length, map, get_or, slice_get, set, Option, Some, None, All, find, position, refl, sym, ap, subst, arith, length-append, length-set, ltb-true, ltb-false, append_assoc, append-nil, is_some, Vec, Global, ◌⊎◌, inl, inr, true≢false, option_map, take, drop, drop_of_length-le, take_all}
 use Rattle.std.specs.List.{prefix_len, position_or_len}
 use Rattle.std.proofs.lemmas.List.{map-append, length-map}
 use Rattle.std.proofs.lemmas.List.FromFn.{length-range_with_len}

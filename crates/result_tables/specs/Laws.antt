@@ -1,5 +1,5 @@
 -- What follows from the definitions, each law as one statement, and proofs of them that the rooms above can cite.
-use Rattle.std.specs.Prelude.{◌≡◌, ◌≢◌, ◌+◌, ◌≤◌, ℕ, List, length, Option, Some, None}
+use Rattle.std.specs.Prelude.{◌≡◌, ◌≢◌, List, length, Option, Some, None}
 use Rattle.std.specs.List.{range_with_len}
 use Rattle.std.proofs.Common.{sym, ap, ◌∙◌, arith}
 use Rattle.graph_model.specs.declared.number.NodeNo.{NodeNo}

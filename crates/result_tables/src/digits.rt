@@ -1,17 +1,20 @@
 //! Decimal digits.
 
-ghost use Rattle.std.specs.Prelude.{◌≡◌, ◌++◌, ◌<◌, ◌≤◌, ◌^◌, length, drop, OnOk};
+ghost use Rattle.std.specs.Prelude.{◌≡◌, ◌++◌, ◌+◌, ◌≤◌, length, drop, OnOk};
 ghost use Rattle.std.specs.Fmt.{decimal, signed_decimal};
 
 use surge_outside::NoMemory;
 
-// Lays the digits of a number out at the end of a room for 20, and tells where they begin.
-fn lay_digits(room: &mut [u8], number: u64) -> usize
-    requires { length room.old ≡ 20 }
-    ensures within { result ≤ length room.new }
-    ensures digits { drop result room.new ≡ decimal number }
+/// Lays the digits of a number out before a place, and tells where they begin: at most 20 bytes before it.
+pub(crate) fn lay_digits(room: &mut [u8], end: usize, number: u64) -> usize
+    requires long { 20 ≤ end }
+    requires in_room { end ≤ length room.old }
+    ensures size { length room.new ≡ length room.old }
+    ensures within { result ≤ end }
+    ensures far { end ≤ result + 20 }
+    ensures digits { drop result room.new ≡ decimal number ++ drop end room.old }
 {
-    let mut start = 19;
+    let mut start = end - 1;
     let mut rest = number;
     while rest >= 10 {
         room[start] = b'0' + (rest % 10) as u8;
@@ -22,22 +25,29 @@ fn lay_digits(room: &mut [u8], number: u64) -> usize
     start
 }
 
+/// The same, with `-` before the digits where the number is below zero.
+pub(crate) fn lay_signed(room: &mut [u8], end: usize, number: i64) -> usize
+    requires long { 21 ≤ end }
+    requires in_room { end ≤ length room.old }
+    ensures size { length room.new ≡ length room.old }
+    ensures within { result ≤ end }
+    ensures far { end ≤ result + 21 }
+    ensures digits { drop result room.new ≡ signed_decimal number ++ drop end room.old }
+{
+    let start = lay_digits(room, end, number.unsigned_abs());
+    if number >= 0 {
+        return start;
+    }
+    room[start - 1] = b'-';
+    start - 1
+}
+
 /// Adds the digits of a number.
 pub(crate) fn push_decimal(text: &mut Vec<u8>, number: u64) -> Result<(), NoMemory>
     ensures { OnOk result (text.new.items ≡ text.old.items ++ decimal number) }
 {
     let mut room = [0u8; 20];
-    let start = lay_digits(&mut room, number);
+    let start = lay_digits(&mut room, 20, number);
     text.extend_from_slice(&room[start..])?;
     Ok(())
-}
-
-/// Adds the digits of a number, with `-` before them where it is below zero.
-pub(crate) fn push_signed(text: &mut Vec<u8>, number: i64) -> Result<(), NoMemory>
-    ensures { OnOk result (text.new.items ≡ text.old.items ++ signed_decimal number) }
-{
-    if number < 0 {
-        text.push(b'-')?;
-    }
-    push_decimal(text, number.unsigned_abs())
 }

@@ -1,9 +1,9 @@
 //! The text of a table, and the line that sums it up.
 
-ghost use Rattle.std.specs.Prelude.{◌≡◌, ◌++◌, length, OnOk, IfOk};
-ghost use Rattle.result_tables.specs.TableText.{IsTable, value_line, outcome_text, node_lines, rows, head_text, tail_text, totals_text, summary_tail, form_text};
+ghost use Rattle.std.specs.Prelude.{◌≡◌, ◌++◌, ◌+◌, ◌≤◌, length, drop, OnOk, IfOk};
+ghost use Rattle.result_tables.specs.TableText.{IsTable, value_text, value_line, outcome_text, node_lines, rows, head_text, tail_text, totals_text, summary_tail, form_text};
 
-use crate::digits::{push_decimal, push_signed};
+use crate::digits::{lay_digits, lay_signed, push_decimal};
 use crate::form::Form;
 use crate::table::Table;
 use crate::totals::push_totals;
@@ -12,19 +12,34 @@ use std::alloc::Global;
 use surge_outside::NoMemory;
 use vertex_lang::Outcome;
 
-// Adds the line of a node with this id and value.
+// Lays a value out before a place, and tells where it begins.
+fn lay_value(room: &mut [u8], end: usize, value: Val) -> usize
+    requires long { 21 ≤ end }
+    requires in_room { end ≤ length room.old }
+    ensures size { length room.new ≡ length room.old }
+    ensures within { result ≤ end }
+    ensures far { end ≤ result + 21 }
+    ensures text { drop result room.new ≡ value_text value ++ drop end room.old }
+{
+    match value {
+        Val::Nil => {
+            room[end - 1] = b'-';
+            end - 1
+        }
+        Val::Num(number) => lay_signed(room, end, number),
+    }
+}
+
+// Adds the line of a node with this id and value. The line is laid out from its end, in a room for 20 digits, a comma, a
+// sign, 20 digits and the byte that ends a line.
 fn push_value(text: &mut Vec<u8>, id: u64, value: Val) -> Result<(), NoMemory>
     ensures { OnOk result (text.new.items ≡ text.old.items ++ value_line id value) }
 {
-    push_decimal(text, id)?;
-    match value {
-        Val::Nil => text.extend_from_slice(b",-")?,
-        Val::Num(number) => {
-            text.push(b',')?;
-            push_signed(text, number)?;
-        }
-    }
-    text.push(b'\n')?;
+    let mut room = [b'\n'; 43];
+    let comma = lay_value(&mut room, 42, value) - 1;
+    room[comma] = b',';
+    let start = lay_digits(&mut room, comma, id);
+    text.extend_from_slice(&room[start..])?;
     Ok(())
 }
 

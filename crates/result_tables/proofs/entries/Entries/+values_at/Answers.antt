@@ -1,6 +1,5 @@
 -- The values on the way to an entry.
-use Rattle.std.proofs.Common.{◌≡◌, ◌∙◌, ◌<◌, List, length, All, sym, ap, subst, arith}
-use Rattle.graph_model.specs.declared.number.NodeNo.{NodeNo}
+use Rattle.std.proofs.Common.{◌≡◌, ◌∙◌, List, length, sym, ap, arith}
 use Rattle.graph_model.specs.declared.value.Val.{Val}
 use Rattle.result_tables.specs.Results.{assigned}
 use Rattle.result_tables.specs.ResultsInside.{values_at}

@@ -1,7 +1,4 @@
 -- The table of an entry, and its size.
-use Rattle.std.proofs.Common.{List, sym, subst}
-use Rattle.graph_model.specs.declared.value.Val.{Val}
-use Rattle.result_tables.specs.Results.{HasValues}
 use Rattle.result_tables.specs.ResultsInside.{values_at}
 use Rattle.result_tables.proofs.Holding.{its_size, its_table, size_shown}
 use Rattle.result_tables.proofs.entries.Entries.table_at.Goals as goal
