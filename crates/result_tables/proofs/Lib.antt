@@ -1,4 +1,3 @@
 pub mod Growing
-pub mod LaidOut
 pub mod Summing
 pub mod Holding

@@ -3,6 +3,7 @@
 ghost use Rattle.std.specs.Prelude.{◌≡◌, ◌++◌, ◌+◌, ◌≤◌, length, drop, OnOk};
 ghost use Rattle.std.specs.Fmt.{decimal, signed_decimal};
 
+use itoa::write_digits;
 use surge_outside::NoMemory;
 
 /// Lays the digits of a number out before a place, and tells where they begin: at most 20 bytes before it.
@@ -14,15 +15,7 @@ pub(crate) fn lay_digits(room: &mut [u8], end: usize, number: u64) -> usize
     ensures far { end ≤ result + 20 }
     ensures digits { drop result room.new ≡ decimal number ++ drop end room.old }
 {
-    let mut start = end - 1;
-    let mut rest = number;
-    while rest >= 10 {
-        room[start] = b'0' + (rest % 10) as u8;
-        rest /= 10;
-        start -= 1;
-    }
-    room[start] = b'0' + rest as u8;
-    start
+    write_digits(number, room, end)
 }
 
 /// The same, with `-` before the digits where the number is below zero.

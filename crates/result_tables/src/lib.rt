@@ -6,7 +6,7 @@
 //! values of each view differ from those of the view before, and answers tables. Its models are `specs/TableText.antt`, the
 //! text as a function of the head, the graph and the table, and `specs/Results.antt`, the held answers as a list. It promises
 //! that exactly this text goes out, or a front of it where a write fails, and that a table is what the changes come to; a
-//! refused addition changes nothing. Digits are laid out by hand: a table has two numbers for each of up to 1,000,000 nodes.
+//! refused addition changes nothing. Lines are laid out from their end: a table has two numbers for each of up to 1,000,000 nodes.
 #![tactic(auto)]
 
 mod digits;
