@@ -97,25 +97,26 @@ module _ (answer : Answer) (f : Frame) (frame : IsFrame answer f f.limit) where
 
   pub at-start : (lists : Lists)
       → lists.starts.items ≡ map (start_of f.program.now f.graph.now) (nodes_of f.graph.now)
-      → lists.old_now.items ≡ lists.starts.items → lists.old_before.items ≡ lists.starts.items → lists.new_now.items ≡ lists.starts.items → lists.new_before.items ≡ lists.starts.items
+      → lists.old_now.items ≡ lists.starts.items → lists.new_now.items ≡ lists.starts.items → lists.new_before.items ≡ lists.starts.items
       → length lists.old_degrees.items ≡ count_in f → AreDegrees f.program.now f.graph.now (arcs_in f.rows.now.by_head f.old.now) lists.old_degrees.items → ((u : ℕ) → u < count_in f → get_or lists.old_degrees.items u 0 < 2 ^ 32)
       → length lists.new_degrees.items ≡ count_in f → AreDegrees f.program.now f.graph.now (arcs_in f.rows.now.by_head f.new.now) lists.new_degrees.items → ((u : ℕ) → u < count_in f → get_or lists.new_degrees.items u 0 < 2 ^ 32)
       → length lists.touched.items ≡ count_in f → ((v : ℕ) → v < count_in f → get_or lists.touched.items v false ≡ f.first)
+      → length lists.parted.items ≡ count_in f
       → length lists.marked.items ≡ count_in f
       → length lists.watched.items ≡ count_in f → All (λ a. get_or lists.watched.items a.tail.0 false ≡ true) f.turned.now
       → TellTurned (λ a. a.tail.0) f.graph.now f.rows.now.by_head f.first f.old.now f.new.now lists.turned
       → MayKeep lists.alike f.program.now f.graph.now → AreSent lists.alike f.program.now f.graph.now lists.new_degrees.items lists.starts.items lists.new_sent.items
       → IsQueue (count_in f) lists.queue → StandAt answer f 0 (was_touched_at answer f 0) lists
-  at-start lists es eon eob enn enb sod aod bod snd and bnd st at sm sw aw tt mk kn q =
+  at-start lists es eon enn enb sod aod bod snd and bnd st at sp sm sw aw tt mk kn q =
       let old = at-first f.old.now lists.old_degrees.items lists.old_now.items frame.old_size sod aod bod (eon ∙ es) in
       record {
         starts = es;
         new_now = at-first f.new.now lists.new_degrees.items lists.new_now.items frame.new_size snd and bnd (enn ∙ es);
         new_before = at-first f.new.now lists.new_degrees.items lists.new_before.items frame.new_size snd and bnd (enb ∙ es);
         old_now = λ one. old;
-        old_before = λ one. at-first f.old.now lists.old_degrees.items lists.old_before.items frame.old_size sod aod bod (eob ∙ es);
         old_sized = old.sized;
-        old_before_size = (at-first f.old.now lists.old_degrees.items lists.old_before.items frame.old_size sod aod bod (eob ∙ es)).sized.values_size;
+        parted_size = sp;
+        parted_are = λ one later. absurd (omega (arith, later));
         touched_size = st;
         touched_are = λ v low. at v low ∙ untouched-start f.first v;
         marked_size = sm;

@@ -1,6 +1,6 @@
 -- When a round begins, all who may be active or counted in it wait.
 use Rattle.std.proofs.Common.{◌≡◌, ◌∙◌, ◌<◌, ◌≤◌, ◌+◌, ◌-◌, [], suc, sym, ap, subst, refl, ℕ, Bool, true, false, List, Some, None, get_or, arith, inl, inr}
-use Rattle.std.specs.Prelude.{All, ◌⊎◌, ◌||◌}
+use Rattle.std.specs.Prelude.{All, ◌⊎◌, ◌||◌, not}
 use Rattle.std.proofs.lemmas.Bool.{cases_Bool}
 use Rattle.std.proofs.lemmas.List.Elements.{All-weaker}
 use Rattle.std.proofs.lemmas.List.Sorted.{All-permutation, IsPermutation-sym}
@@ -9,8 +9,9 @@ use Rattle.vertex_lang.specs.declared.arc.Arc.{Arc}
 use Rattle.vertex_lang.specs.declared.program.Program.{Program}
 use Rattle.graph_model.specs.GraphData.{GraphData}
 use Rattle.vertex_lang.specs.Expressions.{Answer, sent_by, send_words}
-use Rattle.vertex_lang.specs.Rounds.{value_at, lone}
-use Rattle.lone_work.specs.Work.{node_active, node_touched, node_marked, touched_before, lone_in}
+use Rattle.vertex_lang.specs.Lone.{same_value}
+use Rattle.vertex_lang.specs.Rounds.{value_at}
+use Rattle.lone_work.specs.Work.{node_active, node_touched, node_marked, touched_before}
 use Rattle.lone_work.specs.WorkLaws.{untouched-value}
 use Rattle.round_kernel.specs.declared.history.Change.{Change}
 use Rattle.round_kernel.specs.declared.queue.Queue.{Queue}
@@ -19,12 +20,13 @@ use Rattle.round_kernel.specs.declared.round.Lists.{Lists}
 use Rattle.round_kernel.specs.Sides.{arcs_in, AreDegrees, IsTurned}
 use Rattle.round_kernel.specs.Histories.{HasChanges, is_changed, is_listed}
 use Rattle.round_kernel.specs.Queues.{waits, StillWait, IsHeard, IsSilent, DegreeAgrees, ValuesAgree, AllHear}
-use Rattle.round_kernel.specs.Rounds.{old_view}
-use Rattle.round_kernel.specs.Frames.{IsFrame, StandAt, AreCalm, AreShown, count_in, lone_at, new_arcs, old_arcs, was_touched_at, marked_before}
+use Rattle.round_kernel.specs.Rounds.{old_view, TellParted}
+use Rattle.round_kernel.specs.Frames.{IsFrame, StandAt, AreCalm, AreShown, count_in, lone_at, old_lone_at, new_arcs, old_arcs, was_touched_at, marked_before}
 use Rattle.round_kernel.proofs.Waiting.{clash}
-use Rattle.round_kernel.proofs.Calm.{Stays, StartsSilent, calm-first}
+use Rattle.round_kernel.proofs.Calm.{Stays, Same, StartsSilent, calm-first}
 use Rattle.round_kernel.proofs.Filling.{changed-at, listed-at, unchanged-at, heard-still, idle-later, idle-start}
 use Rattle.round_kernel.proofs.Calming.{calm-by}
+use Rattle.round_kernel.proofs.Marking.{old-step}
 
 degrees-at : (p : Program) (graph : GraphData) (arcs : List Arc) (degrees ds : List ℕ) → ds ≡ degrees → AreDegrees p graph arcs degrees → AreDegrees p graph arcs ds
 degrees-at p graph arcs degrees ds e h = subst (λ (xs : List ℕ). AreDegrees p graph arcs xs) (sym e) h
@@ -36,13 +38,9 @@ module _ (answer : Answer) (f : Frame) (r : ℕ) where
   untouched-by false k v one e = e
 
   -- a node that wasn't touched before this round has the same values in both views
-  pub untouched-agree : (lists : Lists) (touched : List Bool) (on ob nn nb : List Val) → 0 < r → StandAt answer f r (was_touched_at answer f r) lists
-      → touched ≡ lists.touched.items → on ≡ lists.old_now.items → ob ≡ lists.old_before.items → nn ≡ lists.new_now.items → nb ≡ lists.new_before.items
-      → f.first ≡ false → (v : ℕ) → v < count_in f → get_or touched v false ≡ false → ValuesAgree on ob nn nb v
-  untouched-agree lists touched on ob nn nb later u et eon eob enn enb one v low off = (
-    ap (λ (vs : List Val). value_at vs v) (eon ∙ (u.old_now one).values_are) ∙ sym (same r (omega (arith, at))) ∙ sym (ap (λ (vs : List Val). value_at vs v) (enn ∙ u.new_now.values_are)),
-    ap (λ (vs : List Val). value_at vs v) (eob ∙ (u.old_before one).values_are) ∙ sym (same (r - 1) (omega (arith, at))) ∙ sym (ap (λ (vs : List Val). value_at vs v) (enb ∙ u.new_before.values_are)),
-  ) where
+  pub untouched-agree : (lists : Lists) (touched : List Bool) → 0 < r → StandAt answer f r (was_touched_at answer f r) lists → touched ≡ lists.touched.items
+      → f.first ≡ false → (v n : ℕ) → v < count_in f → get_or touched v false ≡ false → n ≤ r → value_at (lone_at answer f n) v ≡ value_at (old_lone_at answer f n) v
+  untouched-agree lists touched later u et one v n low off within = untouched-value answer f.program.now f.graph.now (new_arcs f) (arcs_in f.rows.now.by_head f.old.now) v (r - 1) n low none (omega (arith, at, within)) where
     at : r ≡ suc (r - 1)
     at = omega (arith, later)
 
@@ -51,9 +49,6 @@ module _ (answer : Answer) (f : Frame) (r : ℕ) where
 
     none : node_touched answer f.program.now f.graph.now (new_arcs f) (Some (arcs_in f.rows.now.by_head f.old.now)) v (r - 1) ≡ false
     none = untouched-by f.first (r - 1) v one (ap (λ n. was_touched_at answer f n v) (sym at) ∙ was)
-
-    same : (n : ℕ) → n ≤ (r - 1) + 1 → value_at (lone_at answer f n) v ≡ value_at (lone answer f.program.now f.graph.now (arcs_in f.rows.now.by_head f.old.now) n) v
-    same n within = untouched-value answer f.program.now f.graph.now (new_arcs f) (arcs_in f.rows.now.by_head f.old.now) v (r - 1) n low none within
 
 module _ (answer : Answer) (f : Frame) (r : ℕ) (frame : IsFrame answer f f.limit) where
   -- ---- at round 0
@@ -92,41 +87,54 @@ module _ (answer : Answer) (f : Frame) (r : ℕ) (frame : IsFrame answer f f.lim
 
   -- ---- later
 
-  module _ (k : ℕ) (at : r ≡ suc k) (lists : Lists) (od nd : List ℕ) (w touched : List Bool) (on ob nn nb : List Val) (bs : List Change)
+  module _ (k : ℕ) (at : r ≡ suc k) (lists : Lists) (od nd : List ℕ) (w touched parted : List Bool) (on nn : List Val) (bs : List Change)
       (u : StandAt answer f r (was_touched_at answer f r) lists) (below : r < f.limit)
       (eod : od ≡ lists.old_degrees.items) (end : nd ≡ lists.new_degrees.items) (ew : w ≡ lists.watched.items) (et : touched ≡ lists.touched.items)
-      (eon : on ≡ lists.old_now.items) (eob : ob ≡ lists.old_before.items) (enn : nn ≡ lists.new_now.items) (enb : nb ≡ lists.new_before.items)
+      (ep : parted ≡ lists.parted.items) (eon : on ≡ lists.old_now.items) (enn : nn ≡ lists.new_now.items)
       (before : HasChanges (count_in f) (lone_at answer f k) (lone_at answer f r) bs)
-      (heard_old : All (λ c. IsHeard f.first f.rows.now.by_tail f.old.now f.new.now f.by_degree od nd w on ob nn nb lists.queue c.node.0) (get_or f.history.now.changes k []))
-      (heard_new : All (λ c. IsHeard f.first f.rows.now.by_tail f.old.now f.new.now f.by_degree od nd w on ob nn nb lists.queue c.node.0) bs) where
+      (heard_old : All (λ c. IsHeard f.first f.rows.now.by_tail f.old.now f.new.now f.by_degree od nd w touched parted on nn lists.queue c.node.0) (get_or f.history.now.changes k []))
+      (heard_new : All (λ c. IsHeard f.first f.rows.now.by_tail f.old.now f.new.now f.by_degree od nd w touched parted on nn lists.queue c.node.0) bs) where
     more : suc k ≡ k + 1
     more = omega arith
 
     less : r - 1 ≡ k
     less = omega (arith, at)
 
+    -- what changes in the view before
+    had-old : f.first ≡ false → HasChanges (count_in f) (old_lone_at answer f k) (old_lone_at answer f (k + 1)) (get_or f.history.now.changes k [])
+    had-old one = old-step answer f frame k (count_in f) (old_lone_at answer f k) (old_lone_at answer f (k + 1)) (get_or f.history.now.changes k []) (omega (arith, at, below)) one refl refl refl refl
+
     -- the values in the view before stay where no change is listed
-    old-stays : f.first ≡ false → (v : ℕ) → v < count_in f → is_changed v (get_or f.history.now.changes k []) ≡ false
-        → value_at (lone answer f.program.now f.graph.now (arcs_in f.rows.now.by_head f.old.now) (suc k)) v ≡ value_at (lone answer f.program.now f.graph.now (arcs_in f.rows.now.by_head f.old.now) k) v
-    old-stays one v low e =
-        let had : HasChanges (count_in f) (lone_in answer f.program.now f.graph.now (old_arcs f) k) (lone_in answer f.program.now f.graph.now (old_arcs f) (k + 1)) (get_or f.history.now.changes k []) = frame.history.changes k (omega (arith, at, below)) in
-        let still = subst (λ (b : Bool). HasChanges (count_in f) (lone_in answer f.program.now f.graph.now (old_view b f.rows.now.by_head f.old.now) k) (lone_in answer f.program.now f.graph.now (old_view b f.rows.now.by_head f.old.now) (k + 1)) (get_or f.history.now.changes k [])) one had in
-        ap (λ n. value_at (lone answer f.program.now f.graph.now (arcs_in f.rows.now.by_head f.old.now) n) v) more
-        ∙ unchanged-at (count_in f) (lone answer f.program.now f.graph.now (arcs_in f.rows.now.by_head f.old.now) k) (lone answer f.program.now f.graph.now (arcs_in f.rows.now.by_head f.old.now) (k + 1)) (get_or f.history.now.changes k []) v low still e
+    old-stays : f.first ≡ false → (v : ℕ) → v < count_in f → is_changed v (get_or f.history.now.changes k []) ≡ false → value_at (old_lone_at answer f (suc k)) v ≡ value_at (old_lone_at answer f k) v
+    old-stays one v low e = ap (λ n. value_at (old_lone_at answer f n) v) more ∙ unchanged-at (count_in f) (old_lone_at answer f k) (old_lone_at answer f (k + 1)) (get_or f.history.now.changes k []) v low (had-old one) e
 
     new-stays : (v : ℕ) → v < count_in f → is_changed v bs ≡ false → value_at (lone_at answer f (suc k)) v ≡ value_at (lone_at answer f k) v
     new-stays v low e = ap (λ n. value_at (lone_at answer f n) v) (sym at) ∙ unchanged-at (count_in f) (lone_at answer f k) (lone_at answer f r) bs v low before e
 
-    tell : f.first ≡ false → (v : ℕ) → v < count_in f → Stays answer f.program.now f.graph.now f.rows.now.by_head f.old.now f.new.now k v ⊎ IsHeard false f.rows.now.by_tail f.old.now f.new.now f.by_degree od nd w on ob nn nb lists.queue v
+    -- a node that changed has the same values in both views where the lists tell so
+    same-values : f.first ≡ false → (v : ℕ) → v < count_in f → (is_changed v (get_or f.history.now.changes k []) ≡ true) ⊎ (is_changed v bs ≡ true) → ValuesAgree touched parted on nn v
+        → Same answer f.program.now f.graph.now f.rows.now.by_head f.old.now f.new.now k v
+    same-values one v low changed (inl off) =
+        let agree = untouched-agree answer f r lists touched (omega (arith, at)) u et one v in
+        (agree (suc k) low off (omega (arith, at)), agree k low off (omega (arith, at)))
+    same-values one v low changed (inr agree) = (
+      sym (ap (λ (vs : List Val). value_at vs v) (enn ∙ u.new_now.values_are ∙ ap (λ n. lone_at answer f n) at)) ∙ sym agree.0 ∙ ap (λ (vs : List Val). value_at vs v) (eon ∙ (u.old_now one).values_are ∙ ap (λ n. old_lone_at answer f n) at),
+      sym (told v low (elim changed [ inl t ↦ inl (sym ((had-old one).listed v low) ∙ t) | inr t ↦ inr (ap (λ n. not (same_value (value_at (lone_at answer f n) v) (value_at (lone_at answer f k) v))) (sym (at ∙ more)) ∙ sym (before.listed v low) ∙ t) ]) (sym (ap (λ (bits : List Bool). get_or bits v false) ep) ∙ agree.1)),
+    ) where
+      told : TellParted answer f.program.now f.graph.now (arcs_in f.rows.now.by_head f.old.now) (new_arcs f) k lists.parted.items
+      told = subst (λ n. TellParted answer f.program.now f.graph.now (arcs_in f.rows.now.by_head f.old.now) (new_arcs f) n lists.parted.items) less (u.parted_are one (omega (arith, at)))
+
+    tell : f.first ≡ false → (v : ℕ) → v < count_in f → Stays answer f.program.now f.graph.now f.rows.now.by_head f.old.now f.new.now k v
+        ⊎ ((ValuesAgree touched parted on nn v → Same answer f.program.now f.graph.now f.rows.now.by_head f.old.now f.new.now k v) × IsHeard false f.rows.now.by_tail f.old.now f.new.now f.by_degree od nd w touched parted on nn lists.queue v)
     tell one v low = elim (cases_Bool (is_changed v (get_or f.history.now.changes k []))) [
-      | inl t ↦ inr (plain (changed-at (λ n. IsHeard f.first f.rows.now.by_tail f.old.now f.new.now f.by_degree od nd w on ob nn nb lists.queue n) v (get_or f.history.now.changes k []) heard_old t))
+      | inl t ↦ inr (same-values one v low (inl t), plain (changed-at (λ n. IsHeard f.first f.rows.now.by_tail f.old.now f.new.now f.by_degree od nd w touched parted on nn lists.queue n) v (get_or f.history.now.changes k []) heard_old t))
       | inr e ↦ elim (cases_Bool (is_changed v bs)) [
-        | inl t ↦ inr (plain (changed-at (λ n. IsHeard f.first f.rows.now.by_tail f.old.now f.new.now f.by_degree od nd w on ob nn nb lists.queue n) v bs heard_new t))
+        | inl t ↦ inr (same-values one v low (inr t), plain (changed-at (λ n. IsHeard f.first f.rows.now.by_tail f.old.now f.new.now f.by_degree od nd w touched parted on nn lists.queue n) v bs heard_new t))
         | inr g ↦ inl (new-stays v low g, old-stays one v low e)
       ]
     ] where
-      plain : IsHeard f.first f.rows.now.by_tail f.old.now f.new.now f.by_degree od nd w on ob nn nb lists.queue v → IsHeard false f.rows.now.by_tail f.old.now f.new.now f.by_degree od nd w on ob nn nb lists.queue v
-      plain h = subst (λ (b : Bool). IsHeard b f.rows.now.by_tail f.old.now f.new.now f.by_degree od nd w on ob nn nb lists.queue v) one h
+      plain : IsHeard f.first f.rows.now.by_tail f.old.now f.new.now f.by_degree od nd w touched parted on nn lists.queue v → IsHeard false f.rows.now.by_tail f.old.now f.new.now f.by_degree od nd w touched parted on nn lists.queue v
+      plain h = subst (λ (b : Bool). IsHeard b f.rows.now.by_tail f.old.now f.new.now f.by_degree od nd w touched parted on nn lists.queue v) one h
 
     active-next : f.first ≡ false → (v : ℕ) → v < count_in f → waits lists.queue v ≡ false → node_active answer f.program.now f.graph.now (new_arcs f) (Some (arcs_in f.rows.now.by_head f.old.now)) v (suc k) ≡ false
     active-next one v low idle =
@@ -134,22 +142,18 @@ module _ (answer : Answer) (f : Frame) (r : ℕ) (frame : IsFrame answer f f.lim
         (degrees-at f.program.now f.graph.now (arcs_in f.rows.now.by_head f.old.now) lists.old_degrees.items od eod (u.old_now one).degrees_are)
         (degrees-at f.program.now f.graph.now (new_arcs f) lists.new_degrees.items nd end u.new_now.degrees_are)
         (subst (λ (bits : List Bool). All (λ a. IsTurned f.old.now f.new.now a → get_or bits a.tail.0 false ≡ true) f.rows.now.by_head) (sym ew) (u.watched_are one))
-        k on ob nn nb
-        (eon ∙ (u.old_now one).values_are ∙ ap (λ n. lone answer f.program.now f.graph.now (arcs_in f.rows.now.by_head f.old.now) n) at)
-        (eob ∙ (u.old_before one).values_are ∙ ap (λ n. lone answer f.program.now f.graph.now (arcs_in f.rows.now.by_head f.old.now) n) less)
-        (enn ∙ u.new_now.values_are ∙ ap (λ n. lone_at answer f n) at)
-        (enb ∙ u.new_before.values_are ∙ ap (λ n. lone_at answer f n) less)
+        k touched parted on nn
         (tell one) v low idle
 
     -- where there's no view before
     itself-waits : f.first ≡ true → (v : ℕ) → is_changed v bs ≡ true → waits lists.queue v ≡ true
-    itself-waits one v t = elim (changed-at (λ n. IsHeard f.first f.rows.now.by_tail f.old.now f.new.now f.by_degree od nd w on ob nn nb lists.queue n) v bs heard_new t).itself [
+    itself-waits one v t = elim (changed-at (λ n. IsHeard f.first f.rows.now.by_tail f.old.now f.new.now f.by_degree od nd w touched parted on nn lists.queue n) v bs heard_new t).itself [
       | inl a ↦ absurd (clash f.first a.0 one)
       | inr h ↦ h
     ]
 
     readers-wait : f.first ≡ true → (v : ℕ) → is_changed v bs ≡ true → AllHear f.rows.now.by_head lists.queue v
-    readers-wait one v t = elim (changed-at (λ n. IsHeard f.first f.rows.now.by_tail f.old.now f.new.now f.by_degree od nd w on ob nn nb lists.queue n) v bs heard_new t).readers [
+    readers-wait one v t = elim (changed-at (λ n. IsHeard f.first f.rows.now.by_tail f.old.now f.new.now f.by_degree od nd w touched parted on nn lists.queue n) v bs heard_new t).readers [
       | inl a ↦ absurd (clash f.first a.0 one)
       | inr h ↦ All-permutation (λ (a : Arc). a.tail.0 ≡ v → waits lists.queue a.head.0 ≡ true) f.rows.now.by_tail f.rows.now.by_head (IsPermutation-sym f.rows.now.by_head f.rows.now.by_tail frame.rows.same) h
     ]
@@ -184,6 +188,6 @@ module _ (answer : Answer) (f : Frame) (r : ℕ) (frame : IsFrame answer f f.lim
     later-shown h = record { shown = λ v low later. h v ∙ marks-are v low }
 
 -- all are heard still when more wait
-pub all-still : (first : Bool) (arcs : List Arc) (old new : List Bool) (by : Bool) (od nd : List ℕ) (w : List Bool) (on ob nn nb : List Val) (q q' : Queue) (cs : List Change) → StillWait q q'
-    → All (λ c. IsHeard first arcs old new by od nd w on ob nn nb q c.node.0) cs → All (λ c. IsHeard first arcs old new by od nd w on ob nn nb q' c.node.0) cs
-all-still first arcs old new by od nd w on ob nn nb q q' cs s all = λ i d low. heard-still first arcs old new by od nd w on ob nn nb q q' (get_or cs i d).node.0 s (all i d low)
+pub all-still : (first : Bool) (arcs : List Arc) (old new : List Bool) (by : Bool) (od nd : List ℕ) (w t pt : List Bool) (on nn : List Val) (q q' : Queue) (cs : List Change) → StillWait q q'
+    → All (λ c. IsHeard first arcs old new by od nd w t pt on nn q c.node.0) cs → All (λ c. IsHeard first arcs old new by od nd w t pt on nn q' c.node.0) cs
+all-still first arcs old new by od nd w t pt on nn q q' cs s all = λ i d low. heard-still first arcs old new by od nd w t pt on nn q q' (get_or cs i d).node.0 s (all i d low)

@@ -13,7 +13,7 @@ use Rattle.vertex_lang.specs.declared.program.Program.{Program}
 use Rattle.vertex_lang.specs.Arcs.{IsArc}
 use Rattle.vertex_lang.specs.Expressions.{Answer}
 use Rattle.vertex_lang.specs.Lone.{same_value}
-use Rattle.vertex_lang.specs.Rounds.{value_at, lone}
+use Rattle.vertex_lang.specs.Rounds.{value_at}
 use Rattle.vertex_lang.specs.Ignoring.{IgnoresOutdeg}
 use Rattle.lone_work.specs.Work.{node_active}
 use Rattle.vertex_lang.specs.GatherLaws.{values-exact}
@@ -53,9 +53,9 @@ unchanged-at count before after cs u low h e = values-exact.one (value_at after 
   not-told true f = refl
   not-told false f = absurd cc
 
-pub heard-still : (first : Bool) (arcs : List Arc) (old new : List Bool) (by : Bool) (od nd : List ℕ) (w : List Bool) (on ob nn nb : List Val) (q q' : Queue) (u : ℕ) → StillWait q q'
-    → IsHeard first arcs old new by od nd w on ob nn nb q u → IsHeard first arcs old new by od nd w on ob nn nb q' u
-heard-still first arcs old new by od nd w on ob nn nb q q' u s h = record {
+pub heard-still : (first : Bool) (arcs : List Arc) (old new : List Bool) (by : Bool) (od nd : List ℕ) (w t pt : List Bool) (on nn : List Val) (q q' : Queue) (u : ℕ) → StillWait q q'
+    → IsHeard first arcs old new by od nd w t pt on nn q u → IsHeard first arcs old new by od nd w t pt on nn q' u
+heard-still first arcs old new by od nd w t pt on nn q q' u s h = record {
   itself = elim h.itself [ inl a ↦ inl a | inr a ↦ inr (s.still u a) ];
   readers = elim h.readers [ inl a ↦ inl a | inr a ↦ inr (All-weaker (λ (x : Arc). x.tail.0 ≡ u → waits q x.head.0 ≡ true) (λ (x : Arc). x.tail.0 ≡ u → waits q' x.head.0 ≡ true) (λ x g e. s.still x.head.0 (g e)) arcs a) ];
   turned = elim h.turned [ inl a ↦ inl a | inr a ↦ inr (All-weaker (λ (x : Arc). x.tail.0 ≡ u → IsTurned old new x → waits q x.head.0 ≡ true) (λ (x : Arc). x.tail.0 ≡ u → IsTurned old new x → waits q' x.head.0 ≡ true) (λ x g e t. s.still x.head.0 (g e t)) arcs a) ];
@@ -105,18 +105,12 @@ module _ (answer : Answer) (p : Program) (graph : GraphData) (all tails : List A
   turned-all : (u : ℕ) → All (λ a. a.tail.0 ≡ u → IsTurned old new a → waits q a.head.0 ≡ true) tails → All (λ a. a.tail.0 ≡ u → IsTurned old new a → waits q a.head.0 ≡ true) all
   turned-all u h = All-permutation (λ (a : Arc). a.tail.0 ≡ u → IsTurned old new a → waits q a.head.0 ≡ true) tails all (IsPermutation-sym all tails perm) h
 
-  module _ (k : ℕ) (on ob nn nb : List Val) (on-are : on ≡ lone answer p graph (arcs_in all old) (suc k)) (ob-are : ob ≡ lone answer p graph (arcs_in all old) k) (nn-are : nn ≡ lone answer p graph (arcs_in all new) (suc k)) (nb-are : nb ≡ lone answer p graph (arcs_in all new) k)
-      (tell : (u : ℕ) → u < length graph.ids → Stays answer p graph all old new k u ⊎ IsHeard false tails old new by od nd watched on ob nn nb q u) where
-    same-values : (u : ℕ) → ValuesAgree on ob nn nb u → Same answer p graph all old new k u
-    same-values u h = (
-      sym (ap (λ (vs : List Val). value_at vs u) nn-are) ∙ sym h.0 ∙ ap (λ (vs : List Val). value_at vs u) on-are,
-      sym (ap (λ (vs : List Val). value_at vs u) nb-are) ∙ sym h.1 ∙ ap (λ (vs : List Val). value_at vs u) ob-are,
-    )
-
+  module _ (k : ℕ) (touched parted : List Bool) (on nn : List Val)
+      (tell : (u : ℕ) → u < length graph.ids → Stays answer p graph all old new k u ⊎ ((ValuesAgree touched parted on nn u → Same answer p graph all old new k u) × IsHeard false tails old new by od nd watched touched parted on nn q u)) where
     own-calm : (v : ℕ) → v < length graph.ids → waits q v ≡ false → Stays answer p graph all old new k v ⊎ Same answer p graph all old new k v
     own-calm v low idle = elim (tell v low) [
       | inl s ↦ inl s
-      | inr h ↦ elim h.itself [ inl a ↦ inr (same-values v a.1) | inr w ↦ absurd (clash (waits q v) idle w) ]
+      | inr h ↦ elim h.1.itself [ inl a ↦ inr (h.0 a.1) | inr w ↦ absurd (clash (waits q v) idle w) ]
     ]
 
     arc-calm : (v i : ℕ) (d : Arc) → i < length all → waits q v ≡ false → (get_or all i d).head.0 ≡ v
@@ -126,11 +120,11 @@ module _ (answer : Answer) (p : Program) (graph : GraphData) (all tails : List A
         let arc : IsArc graph a = arcs i d low in
         elim (tell a.tail.0 arc.tail) [
           | inl s ↦ inl s
-          | inr h ↦ elim h.readers [
+          | inr h ↦ elim h.1.readers [
             | inr hear ↦ absurd (clash (waits q v) idle (subst (λ n. waits q n ≡ true) at (heard-all a.tail.0 hear i d low refl)))
             | inl agree ↦ inr (
-              same-values a.tail.0 agree.1,
-              same-or-turned (in_view old a) (in_view new a) (λ turned. elim h.turned [
+              h.0 agree.1,
+              same-or-turned (in_view old a) (in_view new a) (λ turned. elim h.1.turned [
                 | inl off ↦ clash (get_or watched a.tail.0 false) off (watched-are i d low turned)
                 | inr hear ↦ clash (waits q v) idle (subst (λ n. waits q n ≡ true) at (turned-all a.tail.0 hear i d low refl turned))
               ]),
@@ -169,15 +163,15 @@ module _ (answer : Answer) (p : Program) (graph : GraphData) (all tails : List A
 
 -- ---- how a changed node is heard
 
-module _ (first : Bool) (arcs : List Arc) (old new : List Bool) (by : Bool) (od nd : List ℕ) (w : List Bool) (on ob nn nb : List Val) (q : Queue) (u : ℕ) where
+module _ (first : Bool) (arcs : List Arc) (old new : List Bool) (by : Bool) (od nd : List ℕ) (w t pt : List Bool) (on nn : List Val) (q : Queue) (u : ℕ) where
   turned-of : AllHear arcs q u → All (λ a. a.tail.0 ≡ u → IsTurned old new a → waits q a.head.0 ≡ true) arcs
   turned-of h = All-weaker (λ (a : Arc). a.tail.0 ≡ u → waits q a.head.0 ≡ true) (λ (a : Arc). a.tail.0 ≡ u → IsTurned old new a → waits q a.head.0 ≡ true) (λ a g e t. g e) arcs h
 
-  pub heard-fully : waits q u ≡ true → AllHear arcs q u → IsHeard first arcs old new by od nd w on ob nn nb q u
+  pub heard-fully : waits q u ≡ true → AllHear arcs q u → IsHeard first arcs old new by od nd w t pt on nn q u
   heard-fully e h = record { itself = inr e; readers = inr h; turned = inr (turned-of h) }
 
-  pub heard-degree : first ≡ false → ValuesAgree on ob nn nb u → AllHear arcs q u → IsHeard first arcs old new by od nd w on ob nn nb q u
+  pub heard-degree : first ≡ false → ValuesAgree t pt on nn u → AllHear arcs q u → IsHeard first arcs old new by od nd w t pt on nn q u
   heard-degree f v h = record { itself = inl (f, v); readers = inr h; turned = inr (turned-of h) }
 
-  pub heard-turned : first ≡ false → ValuesAgree on ob nn nb u → DegreeAgrees by od nd u → (get_or w u false ≡ false) ⊎ All (λ a. a.tail.0 ≡ u → IsTurned old new a → waits q a.head.0 ≡ true) arcs → IsHeard first arcs old new by od nd w on ob nn nb q u
-  heard-turned f v d t = record { itself = inl (f, v); readers = inl (f, v, d); turned = t }
+  pub heard-turned : first ≡ false → ValuesAgree t pt on nn u → DegreeAgrees by od nd u → (get_or w u false ≡ false) ⊎ All (λ a. a.tail.0 ≡ u → IsTurned old new a → waits q a.head.0 ≡ true) arcs → IsHeard first arcs old new by od nd w t pt on nn q u
+  heard-turned f v d h = record { itself = inl (f, v); readers = inl (f, v, d); turned = h }

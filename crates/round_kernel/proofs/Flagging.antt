@@ -120,11 +120,8 @@ module _ (answer : Answer) (f : Frame) (r : ℕ) (lists : Lists) (frame : IsFram
   settled-tells u flag low first (inr none) unset e =
       let p = f.program.now in
       let graph = f.graph.now in
-      let now = lone_at answer f (r + 1) in
       let before = old_lone_at answer f (r + 1) in
-      let agree = untouched-agree answer f (r + 1) lists lists.touched.items lists.old_now.items lists.old_before.items lists.new_now.items lists.new_before.items (omega arith) at refl refl refl refl refl first u low none.1 in
-      let same : value_at now u ≡ value_at before u = sym (ap (λ (vs : List Val). value_at vs u) at.new_now.values_are) ∙ sym (agree.0) ∙ ap (λ (vs : List Val). value_at vs u) (at.old_now first).values_are in
-      ap (λ (v : Val). sent_by p graph u v (outdeg (new_arcs f) u) e) same
+      ap (λ (v : Val). sent_by p graph u v (outdeg (new_arcs f) u) e) (untouched-agree answer f (r + 1) lists lists.touched.items (omega arith) at refl first u (r + 1) low none.1 (omega arith))
       ∙ frame.degree none.0 (send_words graph u (value_at before u) 0 e) (outdeg (new_arcs f) u) (outdeg (arcs_in f.rows.now.by_head f.old.now) u)
 
   module _ (was mid next : Told) (told : StandsTold answer f r was)

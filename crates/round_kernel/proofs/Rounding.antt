@@ -1,8 +1,8 @@
 -- What a round makes: what was found at the touched nodes, and what is copied from the view before at the others.
-use Rattle.std.proofs.Common.{Vec, Global, ◌≡◌, ◌∙◌, ◌<◌, ◌+◌, ◌-◌, ◌++◌, ◌∷◌, [], suc, sym, ap, refl, ℕ, ℤ, Bool, true, false, List, Option, Some, None, length, get_or, filter, arith}
+use Rattle.std.proofs.Common.{Vec, Global, ◌≡◌, ◌∙◌, ◌<◌, ◌+◌, ◌-◌, ◌++◌, ◌∷◌, [], suc, sym, ap, subst, refl, ℕ, ℤ, Bool, true, false, List, Option, Some, None, length, get_or, filter, arith, inl, inr}
 use Rattle.std.specs.Prelude.{◌&&◌, ◌||◌, ◌==◌, not, if◌then◌else◌}
 use Rattle.std.specs.List.{list_any}
-use Rattle.std.proofs.lemmas.Bool.{eqb-true}
+use Rattle.std.proofs.lemmas.Bool.{cases_Bool, eqb-true}
 use Rattle.std.proofs.lemmas.List.Folds.{list_any-append}
 use Rattle.std.proofs.lemmas.List.Elements.{All-append, All-filter, filter_passes}
 use Rattle.graph_model.specs.declared.value.Val.{Val}
@@ -20,8 +20,9 @@ use Rattle.round_kernel.specs.declared.round.Frame.{Frame}
 use Rattle.round_kernel.specs.declared.round.Lists.{Lists}
 use Rattle.round_kernel.specs.Sides.{arcs_in, AreSent, MayKeep, IsSized}
 use Rattle.round_kernel.specs.Histories.{HasNodes, HasChanges, is_changed, is_listed}
-use Rattle.round_kernel.specs.Rounds.{old_view}
-use Rattle.round_kernel.specs.Frames.{StandAt, HasSome, count_in, lone_at, new_arcs, old_arcs, touched_at, marked_at, marked_before, was_touched_at, changes_at}
+use Rattle.round_kernel.specs.Flags.{IsParted, AreSet}
+use Rattle.round_kernel.specs.Rounds.{old_view, TellParted}
+use Rattle.round_kernel.specs.Frames.{StandAt, HasSome, ArePartedAnew, IsCaughtUp, count_in, lone_at, old_lone_at, new_arcs, old_arcs, touched_at, marked_at, marked_before, was_touched_at, changes_at}
 use Rattle.round_kernel.proofs.Waiting.{clash}
 
 -- ---- lists of which the touched nodes are left out
@@ -106,6 +107,18 @@ module _ (answer : Answer) (f : Frame) (r : ℕ) (t : List Bool) (told : (v : �
 
 -- ---- between two rounds
 
+-- which nodes are parted, as slices of the lists
+pub parted-at : (touched ts : List Bool) (old_now os new_now ns : List Val) (changes : List Change) (was ws next ps : List Bool) → ts ≡ touched → os ≡ old_now → ns ≡ new_now → ws ≡ was → next ≡ ps
+    → AreSet (IsParted ts os ns) false changes ws ps → AreSet (IsParted touched old_now new_now) false changes was next
+parted-at touched ts old_now os new_now ns changes was ws next ps et eo en ew ep h =
+    subst (λ (bs : List Bool). AreSet (IsParted bs old_now new_now) false changes was next) et (subst (λ (vs : List Val). AreSet (IsParted ts vs new_now) false changes was next) eo
+    (subst (λ (vs : List Val). AreSet (IsParted ts os vs) false changes was next) en (subst (λ (bs : List Bool). AreSet (IsParted ts os ns) false changes bs next) ew
+    (subst (λ (bs : List Bool). AreSet (IsParted ts os ns) false changes ws bs) (sym ep) h))))
+
+-- all but the parted nodes and the values of the round before stay
+pub kept-both : (old mid new : Lists) → ArePartedAnew old mid → IsCaughtUp mid new → new ≡ record old { parted = mid.parted; new_before = new.new_before }
+kept-both old mid new parted caught = caught ∙ ap (λ (l : Lists). record l { new_before = new.new_before }) parted
+
 module _ (answer : Answer) (f : Frame) (r : ℕ) where
   touched-by : (v : ℕ) (first : Bool) → node_touched answer f.program.now f.graph.now (new_arcs f) (old_view first f.rows.now.by_head f.old.now) v r ≡ (first || touched_before answer f.program.now f.graph.now (new_arcs f) (old_view first f.rows.now.by_head f.old.now) v (r + 1))
   touched-by v true = first-touched answer f.program.now f.graph.now (new_arcs f) v r
@@ -124,9 +137,9 @@ module _ (answer : Answer) (f : Frame) (r : ℕ) where
     new_now = u.new_now;
     new_before = u.new_before;
     old_now = u.old_now;
-    old_before = u.old_before;
     old_sized = u.old_sized;
-    old_before_size = u.old_before_size;
+    parted_size = u.parted_size;
+    parted_are = u.parted_are;
     touched_size = u.touched_size;
     touched_are = u.touched_are;
     marked_size = size;
@@ -138,21 +151,37 @@ module _ (answer : Answer) (f : Frame) (r : ℕ) where
     queue = u.queue;
   }
 
+  -- what is told of the nodes that change in one of the two views
+  pub parted-next : (lists : Lists) → StandAt answer f r (touched_at answer f r) lists → f.first ≡ false → (old new : List Change) → HasChanges (count_in f) (old_lone_at answer f r) (old_lone_at answer f (r + 1)) old → HasChanges (count_in f) (lone_at answer f r) (lone_at answer f (r + 1)) new
+      → (was mid next : List Bool) → AreSet (IsParted lists.touched.items lists.old_now.items lists.new_now.items) false old was mid → AreSet (IsParted lists.touched.items lists.old_now.items lists.new_now.items) false new mid next
+      → TellParted answer f.program.now f.graph.now (arcs_in f.rows.now.by_head f.old.now) (new_arcs f) r next
+  parted-next lists u one old new olds news was mid next first second v low changed unset = elim (cases_Bool (is_changed v new)) [
+    | inl listed ↦ tells (get_or next v false) (second.right v listed) unset
+    | inr off ↦ elim changed [
+      | inl t ↦ tells (get_or mid v false) (first.right v (olds.listed v low ∙ t)) (sym (second.others v off) ∙ unset)
+      | inr t ↦ absurd (clash (is_changed v new) off (news.listed v low ∙ t))
+    ]
+  ] where
+    tells : (flag : Bool) → IsParted lists.touched.items lists.old_now.items lists.new_now.items v flag → flag ≡ false → value_at (old_lone_at answer f r) v ≡ value_at (lone_at answer f r) v
+    tells flag (inl off) e = sym (subst (λ (b : Bool). value_at (lone_at answer f r) v ≡ value_at (lone_in answer f.program.now f.graph.now (old_view b f.rows.now.by_head f.old.now) r) v) one
+        (untouched-two answer f.program.now f.graph.now (new_arcs f) v r (old_arcs f) low (sym (u.touched_are v low) ∙ off)).1)
+    tells flag (inr same) e = sym (ap (λ (vs : List Val). value_at vs v) (u.old_now one).values_are) ∙ same e ∙ ap (λ (vs : List Val). value_at vs v) u.new_now.values_are
+
   -- the values go one round on
-  pub at-next : (lists : Lists) (ob nb on nn : Vec Val Global) (a : Bool) (ns : Vec ℤ Global) → StandAt answer f r (touched_at answer f r) lists
+  pub at-next : (lists : Lists) (pt : Vec Bool Global) (nb on nn : Vec Val Global) (a : Bool) (ns : Vec ℤ Global) → StandAt answer f r (touched_at answer f r) lists
       → nn.items ≡ lone_at answer f (r + 1) → nb.items ≡ lone_at answer f r
-      → (f.first ≡ false → on.items ≡ lone answer f.program.now f.graph.now (arcs_in f.rows.now.by_head f.old.now) (r + 1)) → (f.first ≡ false → ob.items ≡ lone answer f.program.now f.graph.now (arcs_in f.rows.now.by_head f.old.now) r)
-      → length nn.items ≡ count_in f → length nb.items ≡ count_in f → length on.items ≡ count_in f → length ob.items ≡ count_in f
+      → (f.first ≡ false → on.items ≡ lone answer f.program.now f.graph.now (arcs_in f.rows.now.by_head f.old.now) (r + 1)) → (f.first ≡ false → TellParted answer f.program.now f.graph.now (arcs_in f.rows.now.by_head f.old.now) (new_arcs f) r pt.items)
+      → length nn.items ≡ count_in f → length nb.items ≡ count_in f → length on.items ≡ count_in f → length pt.items ≡ count_in f
       → MayKeep a f.program.now f.graph.now → AreSent a f.program.now f.graph.now lists.new_degrees.items nn.items ns.items
-      → StandAt answer f (r + 1) (was_touched_at answer f (r + 1)) (record lists { old_before = ob; new_before = nb; old_now = on; new_now = nn; alike = a; new_sent = ns })
-  at-next lists ob nb on nn a ns u enn enb eon eob snn snb son sob mk kns = record {
+      → StandAt answer f (r + 1) (was_touched_at answer f (r + 1)) (record lists { parted = pt; new_before = nb; old_now = on; new_now = nn; alike = a; new_sent = ns })
+  at-next lists pt nb on nn a ns u enn enb eon told snn snb son spt mk kns = record {
     starts = u.starts;
     new_now = record { sized = sized-of f.new.now lists.new_degrees.items lists.new_now.items nn.items u.new_now.sized snn; degrees_are = u.new_now.degrees_are; values_are = enn };
     new_before = record { sized = sized-of f.new.now lists.new_degrees.items lists.new_before.items nb.items u.new_before.sized snb; degrees_are = u.new_before.degrees_are; values_are = enb ∙ ap (λ n. lone_at answer f n) back };
     old_now = λ one. record { sized = sized-of f.old.now lists.old_degrees.items lists.old_now.items on.items (u.old_now one).sized son; degrees_are = (u.old_now one).degrees_are; values_are = eon one };
-    old_before = λ one. record { sized = sized-of f.old.now lists.old_degrees.items lists.old_before.items ob.items (u.old_before one).sized sob; degrees_are = (u.old_before one).degrees_are; values_are = eob one ∙ ap (λ n. lone answer f.program.now f.graph.now (arcs_in f.rows.now.by_head f.old.now) n) back };
     old_sized = sized-of f.old.now lists.old_degrees.items lists.old_now.items on.items u.old_sized son;
-    old_before_size = sob;
+    parted_size = spt;
+    parted_are = λ one later. subst (λ n. TellParted answer f.program.now f.graph.now (arcs_in f.rows.now.by_head f.old.now) (new_arcs f) n pt.items) back (told one);
     touched_size = u.touched_size;
     touched_are = λ v low. u.touched_are v low ∙ touched-on v;
     marked_size = u.marked_size;

@@ -30,9 +30,9 @@ module _ (answer : Answer) (f : Frame) (r : ℕ) where
     new_now = u.new_now;
     new_before = u.new_before;
     old_now = u.old_now;
-    old_before = u.old_before;
     old_sized = u.old_sized;
-    old_before_size = u.old_before_size;
+    parted_size = u.parted_size;
+    parted_are = u.parted_are;
     touched_size = u.touched_size;
     touched_are = u.touched_are;
     marked_size = u.marked_size;
@@ -51,9 +51,9 @@ module _ (answer : Answer) (f : Frame) (r : ℕ) where
     new_now = u.new_now;
     new_before = u.new_before;
     old_now = u.old_now;
-    old_before = u.old_before;
     old_sized = u.old_sized;
-    old_before_size = u.old_before_size;
+    parted_size = u.parted_size;
+    parted_are = u.parted_are;
     touched_size = u.touched_size;
     touched_are = λ v low. u.touched_are v low ∙ same v low;
     marked_size = u.marked_size;
@@ -73,9 +73,9 @@ module _ (answer : Answer) (f : Frame) (r : ℕ) where
     new_now = u.new_now;
     new_before = u.new_before;
     old_now = u.old_now;
-    old_before = u.old_before;
     old_sized = u.old_sized;
-    old_before_size = u.old_before_size;
+    parted_size = u.parted_size;
+    parted_are = u.parted_are;
     touched_size = ap (λ (bs : List Bool). length bs) et ∙ length-set old.touched.items n b ∙ u.touched_size;
     touched_are = λ v within. ap (λ (bs : List Bool). get_or bs v false) et ∙ (elim (cases_eq v n) [
       | inl same ↦ get_or-set_at old.touched.items n v b false same (omega (arith, u.touched_size)) ∙ sym here ∙ ap again (sym same)

@@ -1,5 +1,6 @@
 -- What is set, node by node, of which nodes may send something else in two views.
 use Rattle.std.specs.Prelude.{◌≡◌, ◌⊎◌, ℕ, Bool, true, false, List, length, get_or}
+use Rattle.graph_model.specs.declared.value.Val.{Val}
 use Rattle.vertex_lang.specs.Expressions.{sent_by}
 use Rattle.vertex_lang.specs.Rounds.{value_at}
 use Rattle.round_kernel.specs.declared.history.Change.{Change}
@@ -16,6 +17,10 @@ IsFlagged f lists u flag = flag ≡ false → (e : ℕ)
 -- the same; or the node was never touched, and the message doesn't depend on how many arcs leave it
 abbrev pub IsSettled : Frame → Lists → ℕ → Bool → Type 0
 IsSettled f lists u flag = IsFlagged f lists u flag ⊎ ((f.by_degree ≡ false) × (get_or lists.touched.items u false ≡ false))
+
+-- a node that was touched has the same value in both views without the flag
+abbrev pub IsParted : List Bool → List Val → List Val → ℕ → Bool → Type 0
+IsParted touched old_now new_now u flag = (get_or touched u false ≡ false) ⊎ (flag ≡ false → value_at old_now u ≡ value_at new_now u)
 
 -- there is a value and a number of arcs of each node, of so many, in both views
 pub record AreLong (count : ℕ) (lists : Lists) : Type 0 where

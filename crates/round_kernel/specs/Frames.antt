@@ -118,4 +118,8 @@ IsKept old new = new ≡ record old { touched = new.touched; scratch = new.scrat
 
 -- all but the values of the round before stay
 abbrev pub IsCaughtUp : Lists → Lists → Type 0
-IsCaughtUp old new = new ≡ record old { old_before = new.old_before; new_before = new.new_before }
+IsCaughtUp old new = new ≡ record old { new_before = new.new_before }
+
+-- all but the parted nodes stay
+abbrev pub ArePartedAnew : Lists → Lists → Type 0
+ArePartedAnew old new = new ≡ record old { parted = new.parted }

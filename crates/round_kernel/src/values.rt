@@ -1,6 +1,6 @@
 //! The values of both views, round by round.
 
-ghost use Rattle.std.specs.Prelude.{◌≡◌, ◌<◌, ◌^◌, true, ℕ, List, length, map, get_or, slice_set, All, IfOk, IsTrue};
+ghost use Rattle.std.specs.Prelude.{◌≡◌, ◌<◌, ◌^◌, true, false, ℕ, List, length, map, get_or, slice_set, All, IfOk, IsTrue};
 ghost use Rattle.graph_model.specs.declared.value.Val.{Val};
 ghost use Rattle.vertex_lang.specs.Leaves.{IsChecked};
 ghost use Rattle.vertex_lang.specs.Expressions.{start_of};
@@ -9,6 +9,7 @@ ghost use Rattle.vertex_lang.specs.Rounds.{nodes_of};
 ghost use Rattle.round_kernel.specs.Sides.{arcs_in, AreSent, MayKeep};
 ghost use Rattle.round_kernel.specs.Forms.{HasForm};
 ghost use Rattle.round_kernel.specs.Numbers.{IsPut};
+ghost use Rattle.round_kernel.specs.Flags.{AreSet, IsParted};
 ghost use Rattle.round_kernel.specs.Histories.{AreStarts, HasChanges, AreChanged, changes_from, all_from};
 
 use crate::history::Change;
@@ -111,6 +112,28 @@ pub(crate) fn catch_up(before: &mut [Val], now: &[Val], changes: &[Change])
     for change in changes {
         let place = change.node.0 as usize;
         before[place] = now[place];
+    }
+}
+
+/// Tells of each touched node that changes whether its values in the two views differ.
+pub(crate) fn part(
+    parted: &mut [bool],
+    touched: &[bool],
+    old_now: &[Val],
+    new_now: &[Val],
+    changes: &[Change],
+)
+    requires within { All (λ c. c.node.0 < length touched.now) changes.now }
+    requires size { length parted.old ≡ length touched.now }
+    requires old_size { length old_now.now ≡ length touched.now }
+    requires new_size { length new_now.now ≡ length touched.now }
+    ensures { AreSet (IsParted touched.now old_now.now new_now.now) false changes.now parted.old parted.new }
+{
+    for change in changes {
+        let place = change.node.0 as usize;
+        if touched[place] {
+            parted[place] = is_other(old_now[place], new_now[place]);
+        }
     }
 }
 
