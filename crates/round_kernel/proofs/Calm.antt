@@ -41,6 +41,10 @@ module _ (answer : Answer) (p : Program) (graph : GraphData) (all : List Arc) (o
   Same k u = (value_at (lone answer p graph (arcs_in all new) (suc k)) u ≡ value_at (lone answer p graph (arcs_in all old) (suc k)) u)
       × (value_at (lone answer p graph (arcs_in all new) k) u ≡ value_at (lone answer p graph (arcs_in all old) k) u)
 
+  -- it is the same in both views, and each arc that leaves the node is in both or in none
+  abbrev pub Still : ℕ → ℕ → Type 0
+  Still k u = Same k u × All (λ a. a.tail.0 ≡ u → in_view old a ≡ in_view new a) all
+
   abbrev pub SameDegree : ℕ → Type 0
   SameDegree u = (outdeg (arcs_in all new) u ≡ outdeg (arcs_in all old) u) ⊎ IgnoresOutdeg p.send
 

@@ -21,12 +21,13 @@ use Rattle.round_kernel.specs.Sides.{arcs_in, AreDegrees, IsTurned}
 use Rattle.round_kernel.specs.Histories.{HasChanges, is_changed, is_listed}
 use Rattle.round_kernel.specs.Queues.{waits, StillWait, IsHeard, IsSilent, DegreeAgrees, ValuesAgree, AllHear}
 use Rattle.round_kernel.specs.Rounds.{old_view, TellParted}
-use Rattle.round_kernel.specs.Frames.{IsFrame, StandAt, AreCalm, AreShown, count_in, lone_at, old_lone_at, new_arcs, old_arcs, was_touched_at, marked_before}
+use Rattle.round_kernel.specs.Frames.{AreStirred, IsFrame, IsQuiet, changes_at, StandAt, AreCalm, AreShown, count_in, lone_at, old_lone_at, new_arcs, old_arcs, was_touched_at, marked_before}
 use Rattle.round_kernel.proofs.Waiting.{clash}
-use Rattle.round_kernel.proofs.Calm.{Stays, Same, StartsSilent, calm-first}
+use Rattle.round_kernel.proofs.Calm.{Stays, Same, Still, StartsSilent, calm-first}
 use Rattle.round_kernel.proofs.Filling.{changed-at, listed-at, unchanged-at, heard-still, idle-later, idle-start}
 use Rattle.round_kernel.proofs.Calming.{calm-by}
 use Rattle.round_kernel.proofs.Marking.{old-step}
+use Rattle.round_kernel.proofs.Rounding.{touched-on}
 
 degrees-at : (p : Program) (graph : GraphData) (arcs : List Arc) (degrees ds : List ℕ) → ds ≡ degrees → AreDegrees p graph arcs degrees → AreDegrees p graph arcs ds
 degrees-at p graph arcs degrees ds e h = subst (λ (xs : List ℕ). AreDegrees p graph arcs xs) (sym e) h
@@ -92,8 +93,8 @@ module _ (answer : Answer) (f : Frame) (r : ℕ) (frame : IsFrame answer f f.lim
       (eod : od ≡ lists.old_degrees.items) (end : nd ≡ lists.new_degrees.items) (ew : w ≡ lists.watched.items) (et : touched ≡ lists.touched.items)
       (ep : parted ≡ lists.parted.items) (eon : on ≡ lists.old_now.items) (enn : nn ≡ lists.new_now.items)
       (before : HasChanges (count_in f) (lone_at answer f k) (lone_at answer f r) bs)
-      (heard_old : All (λ c. IsHeard f.first f.rows.now.by_tail f.old.now f.new.now f.by_degree od nd w touched parted on nn lists.queue c.node.0) (get_or f.history.now.changes k []))
-      (heard_new : All (λ c. IsHeard f.first f.rows.now.by_tail f.old.now f.new.now f.by_degree od nd w touched parted on nn lists.queue c.node.0) bs) where
+      (stirred : List Change) (st : AreStirred answer f k stirred)
+      (heard : All (λ c. IsHeard f.first f.rows.now.by_tail f.old.now f.new.now f.by_degree od nd w touched parted on nn lists.queue c.node.0) stirred) where
     more : suc k ≡ k + 1
     more = omega arith
 
@@ -124,17 +125,34 @@ module _ (answer : Answer) (f : Frame) (r : ℕ) (frame : IsFrame answer f f.lim
       told : TellParted answer f.program.now f.graph.now (arcs_in f.rows.now.by_head f.old.now) (new_arcs f) k lists.parted.items
       told = subst (λ n. TellParted answer f.program.now f.graph.now (arcs_in f.rows.now.by_head f.old.now) (new_arcs f) n lists.parted.items) less (u.parted_are one (omega (arith, at)))
 
+    -- what changes to the round in the new view
+    changes-by : (v : ℕ) → v < count_in f → is_changed v bs ≡ true → changes_at answer f k v ≡ true
+    changes-by v low t = ap (λ n. not (same_value (value_at (lone_at answer f n) v) (value_at (lone_at answer f k) v))) (sym (at ∙ more)) ∙ sym (before.listed v low) ∙ t
+
+    -- a quiet node has the same values in both views
+    quiet-still : f.first ≡ false → (v : ℕ) → v < count_in f → IsQuiet answer f k v → Still answer f.program.now f.graph.now f.rows.now.by_head f.old.now f.new.now k v
+    quiet-still one v low quiet =
+        let off = u.touched_are v low ∙ ap (λ n. was_touched_at answer f n v) (at ∙ more) ∙ sym (touched-on answer f k v) ∙ quiet.untouched in
+        let agree = untouched-agree answer f r lists lists.touched.items (omega (arith, at)) u refl one v in
+        ((agree (suc k) low off (omega (arith, at)), agree k low off (omega (arith, at))), quiet.unturned)
+
+    tell-by : f.first ≡ false → (v : ℕ) → v < count_in f → (is_changed v (get_or f.history.now.changes k []) ≡ true) ⊎ (is_changed v bs ≡ true) → (is_changed v stirred ≡ true) ⊎ IsQuiet answer f k v
+        → ((ValuesAgree touched parted on nn v → Same answer f.program.now f.graph.now f.rows.now.by_head f.old.now f.new.now k v) × IsHeard false f.rows.now.by_tail f.old.now f.new.now f.by_degree od nd w touched parted on nn lists.queue v) ⊎ Still answer f.program.now f.graph.now f.rows.now.by_head f.old.now f.new.now k v
+    tell-by one v low changed (inr quiet) = inr (quiet-still one v low quiet)
+    tell-by one v low changed (inl listed) = inl (
+      same-values one v low changed,
+      subst (λ (b : Bool). IsHeard b f.rows.now.by_tail f.old.now f.new.now f.by_degree od nd w touched parted on nn lists.queue v) one (changed-at (λ n. IsHeard f.first f.rows.now.by_tail f.old.now f.new.now f.by_degree od nd w touched parted on nn lists.queue n) v stirred heard listed),
+    )
+
     tell : f.first ≡ false → (v : ℕ) → v < count_in f → Stays answer f.program.now f.graph.now f.rows.now.by_head f.old.now f.new.now k v
-        ⊎ ((ValuesAgree touched parted on nn v → Same answer f.program.now f.graph.now f.rows.now.by_head f.old.now f.new.now k v) × IsHeard false f.rows.now.by_tail f.old.now f.new.now f.by_degree od nd w touched parted on nn lists.queue v)
+        ⊎ (((ValuesAgree touched parted on nn v → Same answer f.program.now f.graph.now f.rows.now.by_head f.old.now f.new.now k v) × IsHeard false f.rows.now.by_tail f.old.now f.new.now f.by_degree od nd w touched parted on nn lists.queue v) ⊎ Still answer f.program.now f.graph.now f.rows.now.by_head f.old.now f.new.now k v)
     tell one v low = elim (cases_Bool (is_changed v (get_or f.history.now.changes k []))) [
-      | inl t ↦ inr (same-values one v low (inl t), plain (changed-at (λ n. IsHeard f.first f.rows.now.by_tail f.old.now f.new.now f.by_degree od nd w touched parted on nn lists.queue n) v (get_or f.history.now.changes k []) heard_old t))
+      | inl t ↦ inr (tell-by one v low (inl t) (st.old v low t))
       | inr e ↦ elim (cases_Bool (is_changed v bs)) [
-        | inl t ↦ inr (same-values one v low (inr t), plain (changed-at (λ n. IsHeard f.first f.rows.now.by_tail f.old.now f.new.now f.by_degree od nd w touched parted on nn lists.queue n) v bs heard_new t))
+        | inl t ↦ inr (tell-by one v low (inr t) (st.new v low (changes-by v low t)))
         | inr g ↦ inl (new-stays v low g, old-stays one v low e)
       ]
-    ] where
-      plain : IsHeard f.first f.rows.now.by_tail f.old.now f.new.now f.by_degree od nd w touched parted on nn lists.queue v → IsHeard false f.rows.now.by_tail f.old.now f.new.now f.by_degree od nd w touched parted on nn lists.queue v
-      plain h = subst (λ (b : Bool). IsHeard b f.rows.now.by_tail f.old.now f.new.now f.by_degree od nd w touched parted on nn lists.queue v) one h
+    ]
 
     active-next : f.first ≡ false → (v : ℕ) → v < count_in f → waits lists.queue v ≡ false → node_active answer f.program.now f.graph.now (new_arcs f) (Some (arcs_in f.rows.now.by_head f.old.now)) v (suc k) ≡ false
     active-next one v low idle =
@@ -146,14 +164,20 @@ module _ (answer : Answer) (f : Frame) (r : ℕ) (frame : IsFrame answer f f.lim
         (tell one) v low idle
 
     -- where there's no view before
-    itself-waits : f.first ≡ true → (v : ℕ) → is_changed v bs ≡ true → waits lists.queue v ≡ true
-    itself-waits one v t = elim (changed-at (λ n. IsHeard f.first f.rows.now.by_tail f.old.now f.new.now f.by_degree od nd w touched parted on nn lists.queue n) v bs heard_new t).itself [
+    heard-first : f.first ≡ true → (v : ℕ) → v < count_in f → is_changed v bs ≡ true → IsHeard f.first f.rows.now.by_tail f.old.now f.new.now f.by_degree od nd w touched parted on nn lists.queue v
+    heard-first one v low t = elim (st.new v low (changes-by v low t)) [
+      | inl listed ↦ changed-at (λ n. IsHeard f.first f.rows.now.by_tail f.old.now f.new.now f.by_degree od nd w touched parted on nn lists.queue n) v stirred heard listed
+      | inr quiet ↦ absurd (clash f.first quiet.second one)
+    ]
+
+    itself-waits : f.first ≡ true → (v : ℕ) → v < count_in f → is_changed v bs ≡ true → waits lists.queue v ≡ true
+    itself-waits one v low t = elim (heard-first one v low t).itself [
       | inl a ↦ absurd (clash f.first a.0 one)
       | inr h ↦ h
     ]
 
-    readers-wait : f.first ≡ true → (v : ℕ) → is_changed v bs ≡ true → AllHear f.rows.now.by_head lists.queue v
-    readers-wait one v t = elim (changed-at (λ n. IsHeard f.first f.rows.now.by_tail f.old.now f.new.now f.by_degree od nd w touched parted on nn lists.queue n) v bs heard_new t).readers [
+    readers-wait : f.first ≡ true → (v : ℕ) → v < count_in f → is_changed v bs ≡ true → AllHear f.rows.now.by_head lists.queue v
+    readers-wait one v low t = elim (heard-first one v low t).readers [
       | inl a ↦ absurd (clash f.first a.0 one)
       | inr h ↦ All-permutation (λ (a : Arc). a.tail.0 ≡ v → waits lists.queue a.head.0 ≡ true) f.rows.now.by_tail f.rows.now.by_head (IsPermutation-sym f.rows.now.by_head f.rows.now.by_tail frame.rows.same) h
     ]
@@ -161,11 +185,11 @@ module _ (answer : Answer) (f : Frame) (r : ℕ) (frame : IsFrame answer f f.lim
     active-first : f.first ≡ true → (v : ℕ) → v < count_in f → waits lists.queue v ≡ false → node_active answer f.program.now f.graph.now (new_arcs f) None v (suc k) ≡ false
     active-first one v low idle = calm-first answer f.program.now f.graph.now f.rows.now.by_head f.new.now k v
         (elim (cases_Bool (is_changed v bs)) [
-          | inl t ↦ absurd (clash (waits lists.queue v) idle (itself-waits one v t))
+          | inl t ↦ absurd (clash (waits lists.queue v) idle (itself-waits one v low t))
           | inr e ↦ new-stays v low e
         ])
         (λ i d within here. elim (cases_Bool (is_changed (get_or f.rows.now.by_head i d).tail.0 bs)) [
-          | inl t ↦ absurd (clash (waits lists.queue v) idle (subst (λ n. waits lists.queue n ≡ true) here (readers-wait one (get_or f.rows.now.by_head i d).tail.0 t i d within refl)))
+          | inl t ↦ absurd (clash (waits lists.queue v) idle (subst (λ n. waits lists.queue n ≡ true) here (readers-wait one (get_or f.rows.now.by_head i d).tail.0 (frame.rows.arcs i d within).tail t i d within refl)))
           | inr e ↦ new-stays (get_or f.rows.now.by_head i d).tail.0 (frame.rows.arcs i d within).tail e
         ])
 

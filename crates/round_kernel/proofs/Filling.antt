@@ -23,7 +23,7 @@ use Rattle.round_kernel.specs.Sides.{in_view, arcs_in, AreDegrees, IsTurned}
 use Rattle.round_kernel.specs.Histories.{is_changed, is_listed, HasChanges}
 use Rattle.round_kernel.specs.Queues.{waits, StillWait, DegreeAgrees, ValuesAgree, AllHear, IsHeard}
 use Rattle.round_kernel.proofs.Waiting.{clash}
-use Rattle.round_kernel.proofs.Calm.{Stays, Same, SameDegree, StartsSilent, calm-later, calm-start, same-degree, same-or-turned}
+use Rattle.round_kernel.proofs.Calm.{Stays, Same, SameDegree, StartsSilent, calm-later, calm-start, same-degree, same-or-turned, Still}
 
 -- what holds at each change holds at each changed node
 pub changed-at : (P : ℕ → Type 0) (u : ℕ) (cs : List Change) → All (λ c. P c.node.0) cs → is_changed u cs ≡ true → P u
@@ -106,11 +106,12 @@ module _ (answer : Answer) (p : Program) (graph : GraphData) (all tails : List A
   turned-all u h = All-permutation (λ (a : Arc). a.tail.0 ≡ u → IsTurned old new a → waits q a.head.0 ≡ true) tails all (IsPermutation-sym all tails perm) h
 
   module _ (k : ℕ) (touched parted : List Bool) (on nn : List Val)
-      (tell : (u : ℕ) → u < length graph.ids → Stays answer p graph all old new k u ⊎ ((ValuesAgree touched parted on nn u → Same answer p graph all old new k u) × IsHeard false tails old new by od nd watched touched parted on nn q u)) where
+      (tell : (u : ℕ) → u < length graph.ids → Stays answer p graph all old new k u ⊎ (((ValuesAgree touched parted on nn u → Same answer p graph all old new k u) × IsHeard false tails old new by od nd watched touched parted on nn q u) ⊎ Still answer p graph all old new k u)) where
     own-calm : (v : ℕ) → v < length graph.ids → waits q v ≡ false → Stays answer p graph all old new k v ⊎ Same answer p graph all old new k v
     own-calm v low idle = elim (tell v low) [
       | inl s ↦ inl s
-      | inr h ↦ elim h.1.itself [ inl a ↦ inr (h.0 a.1) | inr w ↦ absurd (clash (waits q v) idle w) ]
+      | inr (inr s) ↦ inr s.0
+      | inr (inl h) ↦ elim h.1.itself [ inl a ↦ inr (h.0 a.1) | inr w ↦ absurd (clash (waits q v) idle w) ]
     ]
 
     arc-calm : (v i : ℕ) (d : Arc) → i < length all → waits q v ≡ false → (get_or all i d).head.0 ≡ v
@@ -120,7 +121,8 @@ module _ (answer : Answer) (p : Program) (graph : GraphData) (all tails : List A
         let arc : IsArc graph a = arcs i d low in
         elim (tell a.tail.0 arc.tail) [
           | inl s ↦ inl s
-          | inr h ↦ elim h.1.readers [
+          | inr (inr s) ↦ inr (s.0, s.1 i d low refl, inl (same-degree old new a.tail.0 all s.1))
+          | inr (inl h) ↦ elim h.1.readers [
             | inr hear ↦ absurd (clash (waits q v) idle (subst (λ n. waits q n ≡ true) at (heard-all a.tail.0 hear i d low refl)))
             | inl agree ↦ inr (
               h.0 agree.1,

@@ -1,6 +1,6 @@
 -- What is told of the nodes at round 0 and one round on.
-use Rattle.std.proofs.Common.{◌≡◌, ◌∙◌, ◌<◌, ◌≤◌, ◌+◌, ◌-◌, sym, ap, subst, refl, ℕ, Bool, true, false, List, length, get_or, take, arith, inl, inr}
-use Rattle.std.specs.Prelude.{◌||◌, ◌==◌, replicate}
+use Rattle.std.proofs.Common.{◌≡◌, ◌∙◌, ◌<◌, ◌≤◌, ◌+◌, ◌-◌, [], sym, ap, subst, refl, ℕ, Bool, true, false, List, length, get_or, take, arith, inl, inr}
+use Rattle.std.specs.Prelude.{◌||◌, ◌==◌, ◌⊎◌, replicate}
 use Rattle.std.proofs.lemmas.Bool.{cases_lt, cases_eq, cases_Bool, eq-eqb, ne_eqb}
 use Rattle.std.proofs.lemmas.List.Folds.{list_any_more}
 use Rattle.std.proofs.lemmas.List.{get_or-replicate, get_or_past, length-replicate}
@@ -14,15 +14,18 @@ use Rattle.round_kernel.specs.declared.round.Frame.{Frame}
 use Rattle.round_kernel.specs.declared.round.Lists.{Lists}
 use Rattle.round_kernel.specs.declared.told.Told.{Told}
 use Rattle.round_kernel.specs.Flags.{IsFlagged, IsSettled, AreLong, AreSet}
-use Rattle.round_kernel.specs.Frames.{IsFrame, StandAt, count_in, lone_at, old_lone_at, new_arcs, was_touched_at}
+use Rattle.round_kernel.specs.Frames.{AreStirred, IsFrame, IsQuiet, StandAt, count_in, lone_at, old_lone_at, new_arcs, was_touched_at}
 use Rattle.round_kernel.specs.TurnedArcs.{TellTurned}
 use Rattle.round_kernel.specs.Histories.{is_changed, HasChanges}
 use Rattle.round_kernel.specs.Sides.{arcs_in}
 use Rattle.round_kernel.specs.Telling.{StandsTold, sent_in}
 use Rattle.round_kernel.proofs.Brought.{sent-is}
 use Rattle.round_kernel.proofs.Waiting.{clash, or-first, or-right}
+use Rattle.round_kernel.proofs.Calm.{same-degree}
 use Rattle.round_kernel.proofs.Filled.{untouched-agree}
 use Rattle.round_kernel.proofs.Filling.{unchanged-at}
+use Rattle.round_kernel.proofs.Marking.{old-step}
+use Rattle.round_kernel.proofs.Rounding.{touched-on}
 
 -- ---- a round
 
@@ -104,9 +107,15 @@ set-more IsRight none cs i d low before mid after set size right others = record
 
 -- ---- one round on
 
-module _ (answer : Answer) (f : Frame) (r : ℕ) (lists : Lists) (frame : IsFrame answer f f.limit) (at : StandAt answer f (r + 1) (was_touched_at answer f (r + 1)) lists) (new old : List Change)
-    (news : HasChanges (count_in f) (lone_at answer f r) (lone_at answer f (r + 1)) new)
-    (olds : f.first ≡ false → HasChanges (count_in f) (old_lone_at answer f r) (old_lone_at answer f (r + 1)) old) where
+module _ (answer : Answer) (f : Frame) (r : ℕ) (lists : Lists) (frame : IsFrame answer f f.limit) (under : r < f.limit) (at : StandAt answer f (r + 1) (was_touched_at answer f (r + 1)) lists) (new stirred : List Change)
+    (news : HasChanges (count_in f) (lone_at answer f r) (lone_at answer f (r + 1)) new) (st : AreStirred answer f r stirred) where
+  -- what changes in the view before
+  abbrev old : List Change
+  old = get_or f.history.now.changes r []
+
+  olds : f.first ≡ false → HasChanges (count_in f) (old_lone_at answer f r) (old_lone_at answer f (r + 1)) old
+  olds one = old-step answer f frame r (count_in f) (old_lone_at answer f r) (old_lone_at answer f (r + 1)) old under one refl refl refl refl
+
   -- a node sends what it sent, where it doesn't change
   still-sent : (arcs : List Arc) (changes : List Change) (u e : ℕ) → u < count_in f → HasChanges (count_in f) (lone answer f.program.now f.graph.now arcs r) (lone answer f.program.now f.graph.now arcs (r + 1)) changes
       → is_changed u changes ≡ false → sent_in answer f.program.now f.graph.now arcs (r + 1) u e ≡ sent_in answer f.program.now f.graph.now arcs r u e
@@ -124,19 +133,37 @@ module _ (answer : Answer) (f : Frame) (r : ℕ) (lists : Lists) (frame : IsFram
       ap (λ (v : Val). sent_by p graph u v (outdeg (new_arcs f) u) e) (untouched-agree answer f (r + 1) lists lists.touched.items (omega arith) at refl first u (r + 1) low none.1 (omega arith))
       ∙ frame.degree none.0 (send_words graph u (value_at before u) 0 e) (outdeg (new_arcs f) u) (outdeg (arcs_in f.rows.now.by_head f.old.now) u)
 
+  -- a quiet node sends the same in both views
+  quiet-tells : (u e : ℕ) → u < count_in f → f.first ≡ false → IsQuiet answer f r u
+      → sent_in answer f.program.now f.graph.now (new_arcs f) (r + 1) u e ≡ sent_in answer f.program.now f.graph.now (arcs_in f.rows.now.by_head f.old.now) (r + 1) u e
+  quiet-tells u e low first quiet =
+      let p = f.program.now in
+      let graph = f.graph.now in
+      let off = at.touched_are u low ∙ sym (touched-on answer f r u) ∙ quiet.untouched in
+      ap (λ (v : Val). sent_by p graph u v (outdeg (new_arcs f) u) e) (untouched-agree answer f (r + 1) lists lists.touched.items (omega arith) at refl first u (r + 1) low off (omega arith))
+      ∙ ap (λ (d : ℕ). sent_by p graph u (value_at (old_lone_at answer f (r + 1)) u) d e) (same-degree f.old.now f.new.now u f.rows.now.by_head quiet.unturned)
+
+  -- what changes and isn't listed is quiet
+  unlisted : (u : ℕ) → is_changed u stirred ≡ false → (is_changed u stirred ≡ true) ⊎ IsQuiet answer f r u → IsQuiet answer f r u
+  unlisted u off (inl on) = absurd (clash (is_changed u stirred) off on)
+  unlisted u off (inr quiet) = quiet
+
   module _ (was mid next : Told) (told : StandsTold answer f r was)
-      (apart : AreSet (IsSettled f lists) false new was.apart.items mid.apart.items) (moved : AreSet (λ u to. to ≡ r + 1) 0 new was.moved.items mid.moved.items)
-      (parted : AreSet (IsSettled f lists) false old mid.apart.items next.apart.items) (kept : next.moved ≡ mid.moved) (turned : next.turned ≡ was.turned) where
+      (stays : mid.apart ≡ was.apart) (moved : AreSet (λ u to. to ≡ r + 1) 0 new was.moved.items mid.moved.items)
+      (parted : AreSet (IsSettled f lists) false stirred mid.apart.items next.apart.items) (kept : next.moved ≡ mid.moved) (turned : next.turned ≡ was.turned) where
     apart-next : f.first ≡ false → (u e : ℕ) → u < count_in f → get_or next.apart.items u false ≡ false
         → sent_in answer f.program.now f.graph.now (new_arcs f) (r + 1) u e ≡ sent_in answer f.program.now f.graph.now (arcs_in f.rows.now.by_head f.old.now) (r + 1) u e
-    apart-next first u e low unset = elim (cases_Bool (is_changed u old)) [
+    apart-next first u e low unset = elim (cases_Bool (is_changed u stirred)) [
       | inl listed ↦ settled-tells u (get_or next.apart.items u false) low first (parted.right u listed) unset e
       | inr off ↦
-          let before : get_or mid.apart.items u false ≡ false = sym (parted.others u off) ∙ unset in
-          elim (cases_Bool (is_changed u new)) [
-            | inl listed ↦ settled-tells u (get_or mid.apart.items u false) low first (apart.right u listed) before e
-            | inr out ↦ still-sent (new_arcs f) new u e low news out ∙ told.apart first u e low (sym (apart.others u out) ∙ before)
-                ∙ sym (still-sent (arcs_in f.rows.now.by_head f.old.now) old u e low (olds first) off)
+          let before : get_or was.apart.items u false ≡ false = ap (λ v. get_or v.items u false) (sym stays) ∙ sym (parted.others u off) ∙ unset in
+          elim (cases_Bool (is_changed u old)) [
+            | inl t ↦ quiet-tells u e low first (unlisted u off (st.old u low t))
+            | inr still ↦ elim (cases_Bool (is_changed u new)) [
+              | inl t ↦ quiet-tells u e low first (unlisted u off (st.new u low (sym (news.listed u low) ∙ t)))
+              | inr out ↦ still-sent (new_arcs f) new u e low news out ∙ told.apart first u e low before
+                  ∙ sym (still-sent (arcs_in f.rows.now.by_head f.old.now) old u e low (olds first) still)
+            ]
           ]
     ]
 
@@ -160,7 +187,7 @@ module _ (answer : Answer) (f : Frame) (r : ℕ) (lists : Lists) (frame : IsFram
 
     pub told-next : StandsTold answer f (r + 1) next
     told-next = record {
-      apart_size = parted.size ∙ apart.size ∙ told.apart_size;
+      apart_size = parted.size ∙ ap (λ v. length v.items) stays ∙ told.apart_size;
       moved_size = ap (λ v. length v.items) kept ∙ moved.size ∙ told.moved_size;
       apart = apart-next;
       moved_past = past-next;

@@ -1,6 +1,6 @@
 -- What a round makes: what was found at the touched nodes, and what is copied from the view before at the others.
 use Rattle.std.proofs.Common.{Vec, Global, ◌≡◌, ◌∙◌, ◌<◌, ◌+◌, ◌-◌, ◌++◌, ◌∷◌, [], suc, sym, ap, subst, refl, ℕ, ℤ, Bool, true, false, List, Option, Some, None, length, get_or, filter, arith, inl, inr}
-use Rattle.std.specs.Prelude.{◌&&◌, ◌||◌, ◌==◌, not, if◌then◌else◌}
+use Rattle.std.specs.Prelude.{All, ◌&&◌, ◌||◌, ◌==◌, ◌⊎◌, not, if◌then◌else◌}
 use Rattle.std.specs.List.{list_any}
 use Rattle.std.proofs.lemmas.Bool.{cases_Bool, eqb-true}
 use Rattle.std.proofs.lemmas.List.Folds.{list_any-append}
@@ -18,12 +18,13 @@ use Rattle.lone_work.specs.WorkLaws.{first-touched, untouched-value, untouched-m
 use Rattle.round_kernel.specs.declared.history.Change.{Change}
 use Rattle.round_kernel.specs.declared.round.Frame.{Frame}
 use Rattle.round_kernel.specs.declared.round.Lists.{Lists}
-use Rattle.round_kernel.specs.Sides.{arcs_in, AreSent, MayKeep, IsSized}
+use Rattle.round_kernel.specs.Sides.{arcs_in, in_view, AreSent, MayKeep, IsSized}
 use Rattle.round_kernel.specs.Histories.{HasNodes, HasChanges, is_changed, is_listed}
 use Rattle.round_kernel.specs.Flags.{IsParted, AreSet}
 use Rattle.round_kernel.specs.Rounds.{old_view, TellParted}
-use Rattle.round_kernel.specs.Frames.{StandAt, HasSome, ArePartedAnew, IsCaughtUp, count_in, lone_at, old_lone_at, new_arcs, old_arcs, touched_at, marked_at, marked_before, was_touched_at, changes_at}
-use Rattle.round_kernel.proofs.Waiting.{clash}
+use Rattle.round_kernel.specs.Frames.{AreStirred, IsQuiet, stirs, StandAt, HasSome, ArePartedAnew, IsCaughtUp, count_in, lone_at, old_lone_at, new_arcs, old_arcs, touched_at, marked_at, marked_before, was_touched_at, changes_at}
+use Rattle.round_kernel.proofs.Calm.{same-or-turned}
+use Rattle.round_kernel.proofs.Waiting.{clash, or-right}
 
 -- ---- lists of which the touched nodes are left out
 
@@ -49,6 +50,24 @@ module _ {X : Type 0} (key : X → ℕ) (t : List Bool) (v : ℕ) where
       any-if (not (get_or t (key x) false)) x (filter (λ y. not (get_or t (key y) false)) xs)
       ∙ ap (λ (b : Bool). (not (get_or t (key x) false) && (key x == v)) || b) (any-untouched xs)
       ∙ both-or (not (get_or t (key x) false)) (key x == v) (not (get_or t v false)) (list_any (λ y. key y == v) xs) (λ e. ap (λ n. not (get_or t n false)) (eqb-true (key x) v e))
+
+any-kept : {X : Type 0} (key : X → ℕ) (test : ℕ → Bool) (v : ℕ) (xs : List X) → list_any (λ y. key y == v) (filter (λ y. test (key y)) xs) ≡ (test v && list_any (λ y. key y == v) xs)
+any-kept key test v [] = none (test v) where
+  none : (b : Bool) → false ≡ (b && false)
+  none true = refl
+  none false = refl
+any-kept key test v (x ∷ xs) =
+    any-if key [] v (test (key x)) x (filter (λ y. test (key y)) xs)
+    ∙ ap (λ (b : Bool). (test (key x) && (key x == v)) || b) (any-kept key test v xs)
+    ∙ both-or (test (key x)) (key x == v) (test v) (list_any (λ y. key y == v) xs) (λ e. ap test (eqb-true (key x) v e))
+
+neither-first : (b c : Bool) → (b || c) ≡ false → b ≡ false
+neither-first true c e = absurd (clash true e refl)
+neither-first false c e = refl
+
+neither-second : (b c : Bool) → (b || c) ≡ false → c ≡ false
+neither-second true c e = absurd (clash true e refl)
+neither-second false c e = e
 
 -- what is found where a node is touched, and what is copied where it isn't
 mixed : (t m b : Bool) → (t ≡ false → m ≡ b) → ((t && m) || (not t && b)) ≡ m
@@ -130,6 +149,42 @@ module _ (answer : Answer) (f : Frame) (r : ℕ) where
   pub touched-on : (v : ℕ) → touched_at answer f r v ≡ was_touched_at answer f (r + 1) v
   touched-on v = touched-by v f.first
 
+  -- where a node isn't touched there's a view before
+  second-by : (v : ℕ) (first : Bool) → node_touched answer f.program.now f.graph.now (new_arcs f) (old_view first f.rows.now.by_head f.old.now) v r ≡ false → first ≡ false
+  second-by v true off = absurd (clash (node_touched answer f.program.now f.graph.now (new_arcs f) None v r) off (first-touched answer f.program.now f.graph.now (new_arcs f) v r))
+  second-by v false off = refl
+
+  -- what is found at touched nodes, and what is copied and may have to be told, is all but what changes at quiet nodes
+  pub stirred-all : (lists : Lists) → StandAt answer f r (touched_at answer f r) lists → (t w : List Bool) → t ≡ lists.touched.items → w ≡ lists.watched.items → (found old : List Change) → HasSome answer f r (touched_at answer f r) found → old ≡ get_or f.history.now.changes r []
+      → HasChanges (count_in f) (lone_in answer f.program.now f.graph.now (old_arcs f) r) (lone_in answer f.program.now f.graph.now (old_arcs f) (r + 1)) old
+      → AreStirred answer f r (found ++ filter (λ c. stirs t w c.node.0) old)
+  stirred-all lists u t w et ew found old a eo b = record {
+    within = All-append (λ (c : Change). c.node.0 < count_in f) found rest a.within (All-filter (λ c. stirs t w c.node.0) (λ (c : Change). c.node.0 < count_in f) old b.within);
+    old = λ v low e. by-old v low (ap (λ (cs : List Change). is_changed v cs) eo ∙ e);
+    new = λ v low e. elim (cases_Bool (touched_at answer f r v)) [
+      | inl on ↦ inl (list_any-append (λ (c : Change). c.node.0 == v) found rest ∙ ap (λ (x : Bool). x || is_changed v rest) (a.listed v low ∙ ap (λ (x : Bool). x && changes_at answer f r v) on ∙ e))
+      | inr off ↦
+          let two = untouched-two answer f.program.now f.graph.now (new_arcs f) v r (old_arcs f) low off in
+          by-old v low (b.listed v low ∙ ap (λ (x : Val). not (same_value x (value_at (lone_in answer f.program.now f.graph.now (old_arcs f) r) v))) (sym two.0) ∙ ap (λ (x : Val). not (same_value (value_at (lone_at answer f (r + 1)) v) x)) (sym two.1) ∙ e)
+    ];
+  } where
+    rest : List Change
+    rest = filter (λ c. stirs t w c.node.0) old
+
+    by-old : (v : ℕ) → v < count_in f → is_changed v old ≡ true → (is_changed v (found ++ rest) ≡ true) ⊎ IsQuiet answer f r v
+    by-old v low e = elim (cases_Bool (stirs t w v)) [
+      | inl on ↦ inl (list_any-append (λ (c : Change). c.node.0 == v) found rest ∙ or-right (is_changed v found) (is_changed v rest) (any-kept (λ (c : Change). c.node.0) (stirs t w) v old ∙ ap (λ (x : Bool). x && is_changed v old) on ∙ e))
+      | inr off ↦
+          let untouched : touched_at answer f r v ≡ false = sym (u.touched_are v low) ∙ sym (ap (λ (bits : List Bool). get_or bits v false) et) ∙ neither-first (get_or t v false) (get_or w v false) off in
+          let second : f.first ≡ false = second-by v f.first untouched in
+          inr (record {
+            second = second;
+            untouched = untouched;
+            unturned = λ i d within from. same-or-turned (in_view f.old.now (get_or f.rows.now.by_head i d)) (in_view f.new.now (get_or f.rows.now.by_head i d)) (λ turned. clash (get_or w v false) (neither-second (get_or t v false) (get_or w v false) off)
+                (ap (λ (bits : List Bool). get_or bits v false) ew ∙ ap (λ n. get_or lists.watched.items n false) (sym from) ∙ u.watched_are second i d within turned));
+          })
+    ]
+
   -- the marks are cleared
   pub at-marked : (touched : ℕ → Bool) (lists : Lists) (m : Vec Bool Global) → StandAt answer f r touched lists → length m.items ≡ count_in f → StandAt answer f r touched (record lists { marked = m })
   at-marked touched lists m u size = record {
@@ -152,19 +207,25 @@ module _ (answer : Answer) (f : Frame) (r : ℕ) where
   }
 
   -- what is told of the nodes that change in one of the two views
-  pub parted-next : (lists : Lists) → StandAt answer f r (touched_at answer f r) lists → f.first ≡ false → (old new : List Change) → HasChanges (count_in f) (old_lone_at answer f r) (old_lone_at answer f (r + 1)) old → HasChanges (count_in f) (lone_at answer f r) (lone_at answer f (r + 1)) new
-      → (was mid next : List Bool) → AreSet (IsParted lists.touched.items lists.old_now.items lists.new_now.items) false old was mid → AreSet (IsParted lists.touched.items lists.old_now.items lists.new_now.items) false new mid next
+  pub parted-next : (lists : Lists) → StandAt answer f r (touched_at answer f r) lists → f.first ≡ false → (old stirred : List Change) → old ≡ get_or f.history.now.changes r [] → HasChanges (count_in f) (old_lone_at answer f r) (old_lone_at answer f (r + 1)) old → AreStirred answer f r stirred
+      → (was next : List Bool) → AreSet (IsParted lists.touched.items lists.old_now.items lists.new_now.items) false stirred was next
       → TellParted answer f.program.now f.graph.now (arcs_in f.rows.now.by_head f.old.now) (new_arcs f) r next
-  parted-next lists u one old new olds news was mid next first second v low changed unset = elim (cases_Bool (is_changed v new)) [
-    | inl listed ↦ tells (get_or next v false) (second.right v listed) unset
-    | inr off ↦ elim changed [
-      | inl t ↦ tells (get_or mid v false) (first.right v (olds.listed v low ∙ t)) (sym (second.others v off) ∙ unset)
-      | inr t ↦ absurd (clash (is_changed v new) off (news.listed v low ∙ t))
-    ]
+  parted-next lists u one old stirred eo olds st was next set v low changed unset = elim told [
+    | inl listed ↦ tells (get_or next v false) (set.right v listed) unset
+    | inr quiet ↦ untouched quiet.untouched
   ] where
+    told : (is_changed v stirred ≡ true) ⊎ IsQuiet answer f r v
+    told = elim changed [
+      | inl t ↦ st.old v low (ap (λ (cs : List Change). is_changed v cs) (sym eo) ∙ olds.listed v low ∙ t)
+      | inr t ↦ st.new v low t
+    ]
+
+    untouched : touched_at answer f r v ≡ false → value_at (old_lone_at answer f r) v ≡ value_at (lone_at answer f r) v
+    untouched off = sym (subst (λ (b : Bool). value_at (lone_at answer f r) v ≡ value_at (lone_in answer f.program.now f.graph.now (old_view b f.rows.now.by_head f.old.now) r) v) one
+        (untouched-two answer f.program.now f.graph.now (new_arcs f) v r (old_arcs f) low off).1)
+
     tells : (flag : Bool) → IsParted lists.touched.items lists.old_now.items lists.new_now.items v flag → flag ≡ false → value_at (old_lone_at answer f r) v ≡ value_at (lone_at answer f r) v
-    tells flag (inl off) e = sym (subst (λ (b : Bool). value_at (lone_at answer f r) v ≡ value_at (lone_in answer f.program.now f.graph.now (old_view b f.rows.now.by_head f.old.now) r) v) one
-        (untouched-two answer f.program.now f.graph.now (new_arcs f) v r (old_arcs f) low (sym (u.touched_are v low) ∙ off)).1)
+    tells flag (inl off) e = untouched (sym (u.touched_are v low) ∙ off)
     tells flag (inr same) e = sym (ap (λ (vs : List Val). value_at vs v) (u.old_now one).values_are) ∙ same e ∙ ap (λ (vs : List Val). value_at vs v) u.new_now.values_are
 
   -- the values go one round on

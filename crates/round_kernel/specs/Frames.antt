@@ -1,5 +1,5 @@
 -- What stays the same in all rounds of a step, and what is to be found in a round.
-use Rattle.std.specs.Prelude.{◌≡◌, ◌<◌, ◌≤◌, ◌+◌, ◌-◌, ◌&&◌, not, ℕ, Bool, true, false, List, length, get_or, All, Contains, Option, Some}
+use Rattle.std.specs.Prelude.{◌≡◌, ◌<◌, ◌≤◌, ◌+◌, ◌-◌, ◌&&◌, ◌||◌, ◌⊎◌, not, ℕ, Bool, true, false, List, [], length, get_or, All, Contains, Option, Some}
 use Rattle.graph_model.specs.declared.value.Val.{Val}
 use Rattle.vertex_lang.specs.declared.arc.Arc.{Arc}
 use Rattle.vertex_lang.specs.Arcs.{IsArc}
@@ -12,7 +12,7 @@ use Rattle.lone_work.specs.Work.{node_touched, node_counted, node_marked}
 use Rattle.round_kernel.specs.declared.history.Change.{Change}
 use Rattle.round_kernel.specs.declared.round.Frame.{Frame}
 use Rattle.round_kernel.specs.declared.round.Lists.{Lists}
-use Rattle.round_kernel.specs.Sides.{arcs_in, IsTurned, AreSent, IsRound}
+use Rattle.round_kernel.specs.Sides.{arcs_in, in_view, IsTurned, AreSent, IsRound}
 use Rattle.round_kernel.specs.Histories.{IsHistory, is_changed}
 use Rattle.round_kernel.specs.RowLists.{AreRows}
 use Rattle.round_kernel.specs.Queues.{waits}
@@ -79,6 +79,22 @@ pub record HasSome (answer : Answer) (f : Frame) (r : ℕ) (test : ℕ → Bool)
   pub within : All (λ c. c.node.0 < count_in f) changes
   pub values : All (λ c. c.value ≡ value_at (lone_at answer f (r + 1)) c.node.0) changes
   pub listed : (v : ℕ) → v < count_in f → is_changed v changes ≡ (test v && changes_at answer f r v)
+
+-- a node of which nobody has to be told where it changes: it was never touched, and no arc leaves it that is in one of the two views alone
+pub record IsQuiet (answer : Answer) (f : Frame) (r v : ℕ) : Type 0 where
+  pub second : f.first ≡ false
+  pub untouched : touched_at answer f r v ≡ false
+  pub unturned : All (λ a. a.tail.0 ≡ v → in_view f.old.now a ≡ in_view f.new.now a) f.rows.now.by_head
+
+-- the list has what changes from a round to the next in one of the two views, but for quiet nodes
+pub record AreStirred (answer : Answer) (f : Frame) (r : ℕ) (stirred : List Change) : Type 0 where
+  pub within : All (λ c. c.node.0 < count_in f) stirred
+  pub old : (v : ℕ) → v < count_in f → is_changed v (get_or f.history.now.changes r []) ≡ true → (is_changed v stirred ≡ true) ⊎ IsQuiet answer f r v
+  pub new : (v : ℕ) → v < count_in f → changes_at answer f r v ≡ true → (is_changed v stirred ≡ true) ⊎ IsQuiet answer f r v
+
+-- a change of the node may have to be told
+abbrev pub stirs : List Bool → List Bool → ℕ → Bool
+stirs touched watched v = get_or touched v false || get_or watched v false
 
 -- a node that doesn't wait isn't counted, and is touched only if it was
 pub record AreCalm (answer : Answer) (f : Frame) (r : ℕ) (lists : Lists) : Type 0 where

@@ -11,7 +11,7 @@ ghost use Rattle.round_kernel.specs.Histories.{IsHistory, HasChanges, changes_fr
 ghost use Rattle.round_kernel.specs.Listings.{IsListed};
 ghost use Rattle.round_kernel.specs.RowLists.{AreRows};
 ghost use Rattle.round_kernel.specs.Rounds.{AreIdle};
-ghost use Rattle.round_kernel.specs.Frames.{IsFrame, StandAt, new_arcs, old_arcs, lone_at, was_touched_at, count_in, AreKept};
+ghost use Rattle.round_kernel.specs.Frames.{AreStirred, IsFrame, StandAt, new_arcs, old_arcs, lone_at, was_touched_at, count_in, AreKept};
 ghost use Rattle.round_kernel.specs.Aiding.{StandsAided};
 ghost use Rattle.round_kernel.specs.Steps.{HasRounds, IsRun, outcome_of, TellsAll, AreAlong};
 
@@ -249,6 +249,7 @@ fn run_one<U: Updater>(
     requires frame { IsFrame U.answer frame frame.limit }
     requires round { round < frame.limit }
     requires history { HasRounds U.answer frame round history.old }
+    requires stirred { 0 < round → AreStirred U.answer frame (round - 1) made.old.stirred }
     requires at { StandAt U.answer frame round (was_touched_at U.answer frame round) lists.old }
     requires idle { AreIdle lists.old }
     requires kept_size { length kept.old ≡ count_in frame }
@@ -260,6 +261,7 @@ fn run_one<U: Updater>(
     ensures idle { OnOk result (AreIdle lists.new) }
     ensures kept_size { length kept.new ≡ count_in frame.entry }
     ensures kept { OnOk result (AreKept U.answer frame.entry round (was_touched_at U.answer frame.entry (round + 1)) kept.new) }
+    ensures stirred { OnOk result (AreStirred U.answer frame.entry round made.new.stirred) }
     ensures work { IfOk result (λ n. work U.answer frame.entry.program.now frame.entry.graph.now (new_arcs frame.entry) (old_arcs frame.entry) (round + 1) ≡ work U.answer frame.entry.program.now frame.entry.graph.now (new_arcs frame.entry) (old_arcs frame.entry) round + n) }
     ensures few { IfOk result (λ n. n ≤ 1_000_000) }
     ensures calls { IfOk result (λ n. U.calls updater.new ≡ U.calls updater.old + n) }
@@ -272,17 +274,17 @@ fn run_one<U: Updater>(
         frame,
         before,
         made.changes.as_slice(),
+        made.stirred.as_slice(),
         round,
         lists,
         updater,
     );
-    let changed = frame.history.changes_after(round);
     aids.go_on(
         frame,
         round,
         lists,
         made.changes.as_slice(),
-        changed,
+        made.stirred.as_slice(),
         updater,
     );
     in_node_order(frame, round, lists, &aids.told, &mut made.changes, updater)?;

@@ -2,7 +2,7 @@
 
 ghost use Rattle.std.specs.Prelude.{◌≡◌, ◌<◌, ◌+◌, ◌==◌, ◌≢◌, ℕ, true, false, filter, length, get_or, All, IfOk, IsTrue};
 ghost use Rattle.vertex_lang.specs.Ignoring.{IgnoresOutdeg};
-ghost use Rattle.round_kernel.specs.Frames.{IsFrame, StandAt, count_in, lone_at, old_lone_at, was_touched_at};
+ghost use Rattle.round_kernel.specs.Frames.{AreStirred, IsFrame, StandAt, count_in, lone_at, old_lone_at, was_touched_at};
 ghost use Rattle.round_kernel.specs.Histories.{HasChanges};
 ghost use Rattle.round_kernel.specs.Telling.{StandsTold, InMovers, moves};
 ghost use Rattle.round_kernel.specs.Flags.{IsFlagged, IsSettled, AreLong, AreSet};
@@ -60,51 +60,42 @@ impl Told {
         self.turned.coming_to(node)
     }
 
-    /// One round on, given what changes to it in the new view and in the view before, and the lists as they stand in
-    /// it.
+    /// One round on, given what changes to it in the new view, what may have to be told of what changes in either, and the
+    /// lists as they stand in it.
     pub(crate) fn go_on<U: Updater>(
         &mut self,
         frame: Frame<'_>,
         round: u32,
         lists: &Lists,
         new: &[Change],
-        old: &[Change],
+        stirred: &[Change],
         _updater: &U,
     )
         requires frame { IsFrame U.answer frame frame.limit }
         requires round { round < frame.limit }
         requires at { StandAt U.answer frame (round + 1) (was_touched_at U.answer frame (round + 1)) lists.now }
         requires new { HasChanges (count_in frame) (lone_at U.answer frame round) (lone_at U.answer frame (round + 1)) new.now }
-        requires old { frame.first ≡ false → HasChanges (count_in frame) (old_lone_at U.answer frame round) (old_lone_at U.answer frame (round + 1)) old.now }
-        requires within { All (λ c. c.node.0 < count_in frame) old.now }
+        requires stirred { AreStirred U.answer frame round stirred.now }
         requires told { StandsTold U.answer frame round self.old }
         ensures { StandsTold U.answer frame.entry (round + 1) self.new }
     {
-        self.move_all(frame, round + 1, lists, new);
-        self.part_all(frame, lists, old);
+        self.move_all(round + 1, new);
+        self.part_all(frame, lists, stirred);
     }
 
-    // Nodes change in the new view to a round: that they did so, and whether they may send something else in both
-    // views.
-    fn move_all(&mut self, frame: Frame<'_>, round: u32, lists: &Lists, changes: &[Change])
-        requires within { All (λ c. c.node.0 < count_in frame) changes.now }
-        requires long { AreLong (count_in frame) lists.now }
-        requires degree { frame.by_degree ≡ false → IgnoresOutdeg frame.program.now.send }
-        requires apart { length self.old.apart.items ≡ count_in frame }
-        requires moved { length self.old.moved.items ≡ count_in frame }
-        ensures apart { AreSet (IsSettled frame.entry lists.now) false changes.now
-            self.old.apart.items self.new.apart.items }
+    // Nodes change in the new view to a round: that they did so.
+    fn move_all(&mut self, round: u32, changes: &[Change])
+        requires { All (λ c. c.node.0 < length self.old.moved.items) changes.now }
         ensures moved { AreSet (λ u to. to ≡ round) 0 changes.now self.old.moved.items self.new.moved.items }
+        ensures apart { self.new.apart ≡ self.old.apart }
         ensures turned { self.new.turned ≡ self.old.turned }
     {
         for change in changes {
-            let place = change.node.0 as usize;
-            self.moved[place] = round;
-            self.flag(frame, lists, change.node);
+            self.moved[change.node.0 as usize] = round;
         }
     }
 
-    // Nodes change in the view before: whether they may send something else in both views.
+    // Nodes change in one of the two views: whether they may send something else in both.
     fn part_all(&mut self, frame: Frame<'_>, lists: &Lists, changes: &[Change])
         requires within { All (λ c. c.node.0 < count_in frame) changes.now }
         requires long { AreLong (count_in frame) lists.now }

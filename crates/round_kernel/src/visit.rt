@@ -51,6 +51,9 @@ pub(crate) struct Sides<'a> {
 pub(crate) struct Made {
     pub(crate) marks: List<NodeNo>,
     pub(crate) changes: List<Change>,
+    /// What changes to the next round in either view, but at nodes that were never touched, from which no turned arc leaves,
+    /// and of which the message doesn't depend on how many arcs do: of these nobody has to be told.
+    pub(crate) stirred: List<Change>,
 }
 
 impl Made {
@@ -59,10 +62,11 @@ impl Made {
         Made {
             marks: List::new(alloc),
             changes: List::new(alloc),
+            stirred: List::new(alloc),
         }
     }
 
-    /// Nothing anew.
+    /// No marks and no changes anew.
     pub(crate) fn clear(&mut self)
         ensures marks { self.new.marks ≡ [] }
         ensures changes { self.new.changes ≡ [] }

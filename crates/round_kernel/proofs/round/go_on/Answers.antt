@@ -13,40 +13,40 @@ use Rattle.round_kernel.proofs.Sending.{sent-at}
 use Rattle.round_kernel.proofs.round.go_on.Goals as goal
 
 pub catch_up_new-requires-clause-now : goal.catch_up_new-requires-clause-now
-catch_up_new-requires-clause-now g c = ap (λ (l : Lists). l.new_now.items) c.part_both.ensures.kept ∙ c.requires.at.new_now.values_are
+catch_up_new-requires-clause-now g c = ap (λ (l : Lists). l.new_now.items) c.part_stirred.ensures.kept ∙ c.requires.at.new_now.values_are
 
 pub catch_up_new-requires-clause-was : goal.catch_up_new-requires-clause-was
-catch_up_new-requires-clause-was g c = ap (λ (l : Lists). l.new_before.items) c.part_both.ensures.kept ∙ c.requires.at.new_before.values_are
+catch_up_new-requires-clause-was g c = ap (λ (l : Lists). l.new_before.items) c.part_stirred.ensures.kept ∙ c.requires.at.new_before.values_are
 
 pub assign-requires : goal.assign-requires
 assign-requires g c = λ k d low.
     let had = changes-now g.U.Updater.answer c.args.frame c.args.round c.requires.frame c.requires.round c.changes_after.result.now c.changes_after.ensures in
-    omega (arith, had.within k d low, ap (λ (vs : List Val). length vs) c.deref_mut.ensures.value, ap (λ (l : Lists). length l.old_now.items) (kept-both c.args.lists.now c.part_both.new.lists c.catch_up_new.new.lists c.part_both.ensures.kept c.catch_up_new.ensures.kept), c.requires.at.old_sized.values_size)
+    omega (arith, had.within k d low, ap (λ (vs : List Val). length vs) c.deref_mut.ensures.value, ap (λ (l : Lists). length l.old_now.items) (kept-both c.args.lists.now c.part_stirred.new.lists c.catch_up_new.new.lists c.part_stirred.ensures.kept c.catch_up_new.ensures.kept), c.requires.at.old_sized.values_size)
 
 pub apply-lists-requires-clause-within : goal.apply-lists-requires-clause-within
 apply-lists-requires-clause-within g c = λ k d low.
-    omega (arith, c.requires.after.within k d low, ap (λ (vs : List Val). length vs) c.deref_mut-2.ensures.value, ap (λ (l : Lists). length l.new_now.items) (kept-both c.args.lists.now c.part_both.new.lists c.catch_up_new.new.lists c.part_both.ensures.kept c.catch_up_new.ensures.kept), c.requires.at.new_now.sized.values_size)
+    omega (arith, c.requires.after.within k d low, ap (λ (vs : List Val). length vs) c.deref_mut-2.ensures.value, ap (λ (l : Lists). length l.new_now.items) (kept-both c.args.lists.now c.part_stirred.new.lists c.catch_up_new.new.lists c.part_stirred.ensures.kept c.catch_up_new.ensures.kept), c.requires.at.new_now.sized.values_size)
 
 pub apply-lists-requires-clause-size : goal.apply-lists-requires-clause-size
-apply-lists-requires-clause-size g c = omega (arith, ap (λ (vs : List Val). length vs) c.deref_mut-2.ensures.value, ap (λ (l : Lists). length l.new_now.items) (kept-both c.args.lists.now c.part_both.new.lists c.catch_up_new.new.lists c.part_both.ensures.kept c.catch_up_new.ensures.kept), c.requires.at.new_now.sized.values_size)
+apply-lists-requires-clause-size g c = omega (arith, ap (λ (vs : List Val). length vs) c.deref_mut-2.ensures.value, ap (λ (l : Lists). length l.new_now.items) (kept-both c.args.lists.now c.part_stirred.new.lists c.catch_up_new.new.lists c.part_stirred.ensures.kept c.catch_up_new.ensures.kept), c.requires.at.new_now.sized.values_size)
 
 pub apply-lists-requires-clause-degrees_size : goal.apply-lists-requires-clause-degrees_size
-apply-lists-requires-clause-degrees_size g c = omega (arith, ap (λ (vs : List ℕ). length vs) c.deref.ensures.value, ap (λ (l : Lists). length l.new_degrees.items) (kept-both c.args.lists.now c.part_both.new.lists c.catch_up_new.new.lists c.part_both.ensures.kept c.catch_up_new.ensures.kept), c.requires.at.new_now.sized.degrees_size)
+apply-lists-requires-clause-degrees_size g c = omega (arith, ap (λ (vs : List ℕ). length vs) c.deref.ensures.value, ap (λ (l : Lists). length l.new_degrees.items) (kept-both c.args.lists.now c.part_stirred.new.lists c.catch_up_new.new.lists c.part_stirred.ensures.kept c.catch_up_new.ensures.kept), c.requires.at.new_now.sized.degrees_size)
 
 pub apply-lists-requires-clause-small : goal.apply-lists-requires-clause-small
 apply-lists-requires-clause-small g c = λ u low.
-    subst (λ (ds : List ℕ). get_or ds u 0 < 2 ^ 32) (sym (c.deref.ensures.value ∙ ap (λ (l : Lists). l.new_degrees.items) (kept-both c.args.lists.now c.part_both.new.lists c.catch_up_new.new.lists c.part_both.ensures.kept c.catch_up_new.ensures.kept))) (c.requires.at.new_now.sized.degrees_small u low)
+    subst (λ (ds : List ℕ). get_or ds u 0 < 2 ^ 32) (sym (c.deref.ensures.value ∙ ap (λ (l : Lists). l.new_degrees.items) (kept-both c.args.lists.now c.part_stirred.new.lists c.catch_up_new.new.lists c.part_stirred.ensures.kept c.catch_up_new.ensures.kept))) (c.requires.at.new_now.sized.degrees_small u low)
 
 pub apply-lists-requires-clause-keeps : goal.apply-lists-requires-clause-keeps
 apply-lists-requires-clause-keeps g c =
     let f = c.args.frame in
-    subst (λ (l : Lists). MayKeep l.alike f.program.now f.graph.now) (sym (kept-both c.args.lists.now c.part_both.new.lists c.catch_up_new.new.lists c.part_both.ensures.kept c.catch_up_new.ensures.kept)) c.requires.at.keeps
+    subst (λ (l : Lists). MayKeep l.alike f.program.now f.graph.now) (sym (kept-both c.args.lists.now c.part_stirred.new.lists c.catch_up_new.new.lists c.part_stirred.ensures.kept c.catch_up_new.ensures.kept)) c.requires.at.keeps
 
 pub apply-lists-requires-clause-sent : goal.apply-lists-requires-clause-sent
 apply-lists-requires-clause-sent g c =
     let f = c.args.frame in
     sent-at _ f.program.now f.graph.now _ _ _ _ _ _ c.deref.ensures.value c.deref_mut-2.ensures.value c.deref_mut-3.ensures.value
-    (subst (λ (l : Lists). AreSent l.alike f.program.now f.graph.now l.new_degrees.items l.new_now.items l.new_sent.items) (sym (kept-both c.args.lists.now c.part_both.new.lists c.catch_up_new.new.lists c.part_both.ensures.kept c.catch_up_new.ensures.kept)) c.requires.at.new_sent)
+    (subst (λ (l : Lists). AreSent l.alike f.program.now f.graph.now l.new_degrees.items l.new_now.items l.new_sent.items) (sym (kept-both c.args.lists.now c.part_stirred.new.lists c.catch_up_new.new.lists c.part_stirred.ensures.kept c.catch_up_new.ensures.kept)) c.requires.at.new_sent)
 
 pub returns-clause-at : goal.returns-clause-at
 returns-clause-at g c =
@@ -57,7 +57,7 @@ returns-clause-at g c =
     let graph = f.graph.now in
     let lists0 = c.args.lists.now in
     let lists1 = c.catch_up_new.new.lists in
-    let kept = kept-both c.args.lists.now c.part_both.new.lists c.catch_up_new.new.lists c.part_both.ensures.kept c.catch_up_new.ensures.kept in
+    let kept = kept-both c.args.lists.now c.part_stirred.new.lists c.catch_up_new.new.lists c.part_stirred.ensures.kept c.catch_up_new.ensures.kept in
     let on = with_items lists1.old_now c.assign.new.now in
     let nn = with_items lists1.new_now c.apply-lists.new.now in
     let ns = with_items lists1.new_sent c.apply-lists.new.sent in
@@ -76,21 +76,21 @@ returns-clause-at g c =
     let alike : lists1.alike ≡ lists0.alike = ap (λ (l : Lists). l.alike) kept in
     let degrees : lists1.new_degrees.items ≡ lists0.new_degrees.items = ap (λ (l : Lists). l.new_degrees.items) kept in
     subst (λ (l : Lists). StandAt answer f (r + 1) (was_touched_at answer f (r + 1)) (record l { old_now = on; new_now = nn; alike = c.apply-lists.result; new_sent = ns })) (sym kept)
-    (at-next answer f r lists0 c.part_both.new.lists.parted lists1.new_before on nn c.apply-lists.result ns c.requires.at
+    (at-next answer f r lists0 c.part_stirred.new.lists.parted lists1.new_before on nn c.apply-lists.result ns c.requires.at
     (is_new ∙ c.apply-lists.ensures.values (lone_at answer f (r + 1)) (more_new ∙ sym size_new) (moved (length c.deref_mut-2.result.now) (count_in f) c.deref_mut-2.result.now (lone_at answer f r) (lone_at answer f (r + 1)) (lone_at answer f (r + 1)) c.args.after.now c.args.after.now size_new (was_new ∙ c.requires.at.new_now.values_are) refl refl c.requires.after))
     c.catch_up_new.ensures.new
     (λ one. is_old ∙ c.assign.ensures (old_lone_at answer f (r + 1)) (more_old ∙ sym size_old) (old-step answer f c.requires.frame r (length c.deref_mut.result.now) c.deref_mut.result.now (old_lone_at answer f (r + 1)) c.changes_after.result.now c.requires.round one size_old (was_old ∙ (c.requires.at.old_now one).values_are) refl c.changes_after.ensures))
-    c.part_both.ensures.parted
+    c.part_stirred.ensures.parted
     (omega (arith, ap (λ (vs : List Val). length vs) is_new, c.apply-lists.auto.now, size_new))
     (ap (λ (vs : List Val). length vs) c.catch_up_new.ensures.new ∙ length-lone answer p graph (new_arcs f) r)
     (omega (arith, ap (λ (vs : List Val). length vs) is_old, c.assign.auto.now, size_old))
-    c.part_both.ensures.size
+    c.part_stirred.ensures.size
     (λ e. c.requires.at.keeps (sym alike ∙ c.apply-lists.ensures.only e))
     (sent-at c.apply-lists.result p graph _ _ _ _ _ _ (sym (c.deref.ensures.value ∙ degrees)) is_new is_sent c.apply-lists.ensures.sent))
 
 pub returns-clause-idle : goal.returns-clause-idle
 returns-clause-idle g c =
-    let kept = kept-both c.args.lists.now c.part_both.new.lists c.catch_up_new.new.lists c.part_both.ensures.kept c.catch_up_new.ensures.kept in
+    let kept = kept-both c.args.lists.now c.part_stirred.new.lists c.catch_up_new.new.lists c.part_stirred.ensures.kept c.catch_up_new.ensures.kept in
     record {
       none_waits = λ v. ap (λ (l : Lists). waits l.queue v) kept ∙ c.requires.idle.none_waits v;
       none_marked = λ v. ap (λ (l : Lists). get_or l.marked.items v false) kept ∙ c.requires.idle.none_marked v;

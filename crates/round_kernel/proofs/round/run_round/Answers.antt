@@ -1,15 +1,20 @@
-use Rattle.std.proofs.Common.{◌∙◌, ◌+◌, Bool, List, length, get_or, false, sym, ap, subst, arith}
+use Rattle.std.proofs.Common.{◌≡◌, ◌∙◌, ◌+◌, ◌++◌, Bool, List, filter, length, get_or, false, sym, ap, subst, arith}
 use Rattle.round_kernel.specs.declared.history.Change.{Change}
 use Rattle.round_kernel.specs.Histories.{HasChanges}
-use Rattle.round_kernel.specs.Frames.{HasSome, count_in, lone_at, touched_at}
+use Rattle.round_kernel.specs.Frames.{AreStirred, HasSome, stirs, count_in, lone_at, touched_at}
 use Rattle.round_kernel.proofs.Marking.{changes-now}
-use Rattle.round_kernel.proofs.Rounding.{changes-all}
+use Rattle.round_kernel.proofs.Rounding.{changes-all, stirred-all}
 use Rattle.round_kernel.proofs.round.run_round.Goals as goal
 
-pub copy_changes-requires : goal.copy_changes-requires
-copy_changes-requires g c = λ k d low.
+pub copy_changes-requires-clause-touched : goal.copy_changes-requires-clause-touched
+copy_changes-requires-clause-touched g c = λ k d low.
     let had = changes-now g.U.Updater.answer c.args.frame c.args.round c.requires.frame c.requires.round c.changes_after-changes.result.now c.changes_after-changes.ensures in
     omega (arith, had.within k d low, ap (λ (bs : List Bool). length bs) c.deref.ensures.value, c.in_ok-copy_old_marks.ensures.at.touched_size)
+
+pub copy_changes-requires-clause-watched : goal.copy_changes-requires-clause-watched
+copy_changes-requires-clause-watched g c = λ k d low.
+    let had = changes-now g.U.Updater.answer c.args.frame c.args.round c.requires.frame c.requires.round c.changes_after-changes.result.now c.changes_after-changes.ensures in
+    omega (arith, had.within k d low, ap (λ (bs : List Bool). length bs) c.deref-2.ensures.value, c.in_ok-copy_old_marks.ensures.at.watched_size)
 
 pub returns-clause-changes : goal.returns-clause-changes
 returns-clause-changes g c =
@@ -17,6 +22,18 @@ returns-clause-changes g c =
     let f = c.args.frame in
     let r = c.args.round in
     let had = changes-now answer f r c.requires.frame c.requires.round c.changes_after-changes.result.now c.changes_after-changes.ensures in
-    subst (λ (cs : List Change). HasChanges (count_in f) (lone_at answer f r) (lone_at answer f (r + 1)) cs) (sym c.in_ok-copy_changes.ensures)
+    subst (λ (cs : List Change). HasChanges (count_in f) (lone_at answer f r) (lone_at answer f (r + 1)) cs) (sym c.in_ok-copy_changes.ensures.made)
     (changes-all answer f r c.deref.result.now (λ v low. ap (λ (bs : List Bool). get_or bs v false) c.deref.ensures.value ∙ c.in_ok-copy_old_marks.ensures.at.touched_are v low) c.copy_old_marks.new.made.changes c.changes_after-changes.result.now
     (subst (λ (cs : List Change). HasSome answer f r (touched_at answer f r) cs) (sym c.in_ok-copy_old_marks.ensures.changes) c.in_ok-work.ensures.changes) had)
+
+pub returns-clause-stirred : goal.returns-clause-stirred
+returns-clause-stirred g c =
+    let answer = g.U.Updater.answer in
+    let f = c.args.frame in
+    let r = c.args.round in
+    let found = c.copy_old_marks.new.made.changes in
+    let had = changes-now answer f r c.requires.frame c.requires.round c.changes_after-changes.result.now c.changes_after-changes.ensures in
+    let listed : c.list_all.new.stirred ≡ found = c.in_ok-list_all.ensures ∙ ap (λ (cs : List Change). cs ++ c.as_slice-2.result.now) c.clear-2.ensures ∙ c.as_slice-2.ensures in
+    subst (λ (cs : List Change). AreStirred answer f r cs) (sym (c.in_ok-copy_changes.ensures.stirred ∙ ap (λ (cs : List Change). cs ++ filter (λ x. stirs c.deref.result.now c.deref-2.result.now x.node.0) c.changes_after-changes.result.now) listed))
+    (stirred-all answer f r c.copy_old_marks.new.lists c.in_ok-copy_old_marks.ensures.at c.deref.result.now c.deref-2.result.now c.deref.ensures.value c.deref-2.ensures.value found c.changes_after-changes.result.now
+    (subst (λ (cs : List Change). HasSome answer f r (touched_at answer f r) cs) (sym c.in_ok-copy_old_marks.ensures.changes) c.in_ok-work.ensures.changes) c.changes_after-changes.ensures had)

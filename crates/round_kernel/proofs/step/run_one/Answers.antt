@@ -15,16 +15,6 @@ run_round-requires-clause-before g c = λ later. changes-last g.U.Updater.answer
 pub go_on-requires-clause-before : goal.go_on-requires-clause-before
 go_on-requires-clause-before g c = λ later. changes-last g.U.Updater.answer c.args.frame c.args.history.now c.args.round c.requires.history later c.changes_before-before.result.now (c.changes_before-before.ensures later)
 
-pub go_on-requires-2-clause-old : goal.go_on-requires-2-clause-old
-go_on-requires-2-clause-old g c = λ one.
-    let f = c.args.frame in
-    let r = c.args.round in
-    old-step g.U.Updater.answer f c.requires.frame r (count_in f) (old_lone_at g.U.Updater.answer f r) (old_lone_at g.U.Updater.answer f (r + 1)) c.changes_after-changed.result.now c.requires.round one refl refl refl c.changes_after-changed.ensures
-
-pub go_on-requires-2-clause-within : goal.go_on-requires-2-clause-within
-go_on-requires-2-clause-within g c =
-    (changes-now g.U.Updater.answer c.args.frame c.args.round c.requires.frame c.requires.round c.changes_after-changed.result.now c.changes_after-changed.ensures).within
-
 pub returns-clause-history : goal.returns-clause-history
 returns-clause-history g c =
     rounds-more g.U.Updater.answer c.args.frame c.args.history.now c.add_round.new.history c.in_node_order.new.changes c.run_round.new.made.marks c.args.round c.requires.history

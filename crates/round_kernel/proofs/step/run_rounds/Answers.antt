@@ -1,10 +1,10 @@
-use Rattle.std.proofs.Common.{◌≡◌, ◌∙◌, List, Vec, Global, length, ap, sym, inr, arith}
+use Rattle.std.proofs.Common.{◌≡◌, ◌∙◌, ◌+◌, ◌-◌, ℕ, List, Vec, Global, length, ap, sym, subst, inr, arith}
 use Rattle.graph_model.specs.declared.value.Val.{Val}
 use Rattle.std.specs.Vec.{with_items}
 use Rattle.std.proofs.lemmas.List.{length-replicate, with_items_is}
 use Rattle.lone_work.specs.StepLaws.{no-round}
 use Rattle.round_kernel.specs.declared.tally.Kept.{Kept}
-use Rattle.round_kernel.specs.Frames.{new_arcs, old_arcs}
+use Rattle.round_kernel.specs.Frames.{AreStirred, new_arcs, old_arcs}
 use Rattle.round_kernel.proofs.Growing.{rounds-none}
 use Rattle.round_kernel.proofs.Ending.{IsEnd, end-quiet, end-all, run-history, run-work, run-new, run-old}
 use Rattle.round_kernel.proofs.KeptRounds.{kept-next}
@@ -18,6 +18,7 @@ loop-round-init g c = record {
   idle = c.in_ok-lists.ensures.idle;
   kept_size = ap (λ (ks : List Kept). length ks) (c.in_ok-kept.ensures.items_if_clones_equal (λ y e. e)) ∙ length-replicate _ _ ∙ c.node_count.ensures.count;
   kept = λ later. absurd (omega (arith, later));
+  stirred = λ later. absurd (omega (arith, later));
   aided = c.in_ok-aids.ensures.aided;
   within = omega arith;
   work = sym (no-round g.U.Updater.answer c.args.frame.program.now c.args.frame.graph.now (new_arcs c.args.frame) (old_arcs c.args.frame));
@@ -30,12 +31,14 @@ loop-round-preserved g c =
     let kept = c.loop-round.kept in
     let size : length c.run_one.new.kept ≡ kept.len = omega (arith, c.run_one.auto.kept, ap (λ (ks : List Kept). length ks) c.deref_mut.ensures.value, kept.ok) in
     let same = with_items_is kept c.run_one.new.kept size in
+    let back : c.loop-round.round ≡ c.loop-round.round + 1 - 1 = omega arith in
     record {
       rounds = c.in_ok-work.ensures.history;
       at = c.in_ok-work.ensures.at;
       idle = c.in_ok-work.ensures.idle;
       kept_size = ap (λ (ks : List Kept). length ks) same ∙ c.run_one.ensures.kept_size;
       kept = λ later. kept-next g.U.Updater.answer c.args.frame c.loop-round.round c.run_one.new.kept (with_items kept c.run_one.new.kept).items same c.in_ok-work.ensures.kept;
+      stirred = λ later. subst (λ (k : ℕ). AreStirred g.U.Updater.answer c.args.frame k c.run_one.new.made.stirred) back c.in_ok-work.ensures.stirred;
       aided = c.in_ok-work.ensures.aided;
       within = omega arith;
       work = omega (arith, c.loop-round.invariant.work, c.in_ok-work.ensures.work);

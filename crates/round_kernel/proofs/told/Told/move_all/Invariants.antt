@@ -1,10 +1,10 @@
-use Rattle.std.proofs.Common.{◌≡◌, false, take}
-use Rattle.round_kernel.specs.Flags.{IsSettled, AreSet}
+use Rattle.std.proofs.Common.{◌≡◌, take}
+use Rattle.round_kernel.specs.Flags.{AreSet}
 use Rattle.round_kernel.proofs.told.Told.move_all.Given as goal
 
 abbrev pub invariant-loop-change : goal.invariant-loop-change
 invariant-loop-change l = record {
-  apart : AreSet (IsSettled l.frame l.lists) false (take l.change-index l.changes) l.initial.self.apart.items l.self.apart.items;
   moved : AreSet (λ u to. to ≡ l.round) 0 (take l.change-index l.changes) l.initial.self.moved.items l.self.moved.items;
+  apart : l.self.apart ≡ l.initial.self.apart;
   turned : l.self.turned ≡ l.initial.self.turned;
 }
