@@ -21,7 +21,7 @@ use Rattle.round_kernel.specs.Sides.{arcs_in, AreDegrees, IsTurned}
 use Rattle.round_kernel.specs.Histories.{HasChanges, is_changed, is_listed}
 use Rattle.round_kernel.specs.Queues.{waits, StillWait, IsHeard, IsSilent, DegreeAgrees, ValuesAgree, AllHear}
 use Rattle.round_kernel.specs.Rounds.{old_view, TellParted}
-use Rattle.round_kernel.specs.Frames.{AreStirred, IsFrame, IsQuiet, changes_at, StandAt, AreCalm, AreShown, count_in, lone_at, old_lone_at, new_arcs, old_arcs, was_touched_at, marked_before}
+use Rattle.round_kernel.specs.Frames.{AreStirred, IsFrame, IsQuiet, changes_at, StandAt, AreCalm, count_in, lone_at, old_lone_at, new_arcs, old_arcs, was_touched_at, marked_before}
 use Rattle.round_kernel.proofs.Waiting.{clash}
 use Rattle.round_kernel.proofs.Calm.{Stays, Same, Still, StartsSilent, calm-first}
 use Rattle.round_kernel.proofs.Filling.{changed-at, listed-at, unchanged-at, heard-still, idle-later, idle-start}
@@ -207,9 +207,6 @@ module _ (answer : Answer) (f : Frame) (r : ℕ) (frame : IsFrame answer f f.lim
     pub later-calm : All (λ n. get_or touched n.0 false ≡ true → waits lists.queue n.0 ≡ true) (get_or f.history.now.marks k []) → AreCalm answer f r lists
     later-calm wait = calm-by answer f r lists active-later (λ v low idle marked was. clash (waits lists.queue v) idle
         (listed-at (λ n. get_or touched n false ≡ true → waits lists.queue n ≡ true) v (get_or f.history.now.marks k []) wait (marks-are v low ∙ marked) (ap (λ (bits : List Bool). get_or bits v false) et ∙ u.touched_are v low ∙ was)))
-
-    pub later-shown : ((v : ℕ) → get_or lists.marked.items v false ≡ is_listed v (get_or f.history.now.marks k [])) → AreShown answer f r lists
-    later-shown h = record { shown = λ v low later. h v ∙ marks-are v low }
 
 -- all are heard still when more wait
 pub all-still : (first : Bool) (arcs : List Arc) (old new : List Bool) (by : Bool) (od nd : List ℕ) (w t pt : List Bool) (on nn : List Val) (q q' : Queue) (cs : List Change) → StillWait q q'

@@ -25,6 +25,7 @@ pub mod Beginning
 pub mod Growing
 pub mod Gathered
 pub mod Marking
+pub mod Parting
 pub mod Kept
 pub mod KeptRounds
 pub mod Feeding

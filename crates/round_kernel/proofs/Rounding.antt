@@ -22,7 +22,7 @@ use Rattle.round_kernel.specs.Sides.{arcs_in, in_view, AreSent, MayKeep, IsSized
 use Rattle.round_kernel.specs.Histories.{HasNodes, HasChanges, is_changed, is_listed}
 use Rattle.round_kernel.specs.Flags.{IsParted, AreSet}
 use Rattle.round_kernel.specs.Rounds.{old_view, TellParted}
-use Rattle.round_kernel.specs.Frames.{AreStirred, IsQuiet, stirs, StandAt, HasSome, ArePartedAnew, IsCaughtUp, count_in, lone_at, old_lone_at, new_arcs, old_arcs, touched_at, marked_at, marked_before, was_touched_at, changes_at}
+use Rattle.round_kernel.specs.Frames.{AreStirred, IsQuiet, stirs, StandAt, AreDivided, HasSome, ArePartedAnew, IsCaughtUp, count_in, lone_at, old_lone_at, new_arcs, old_arcs, touched_at, marked_at, marked_before, was_touched_at, changes_at}
 use Rattle.round_kernel.proofs.Calm.{same-or-turned}
 use Rattle.round_kernel.proofs.Waiting.{clash, or-right}
 
@@ -69,6 +69,15 @@ neither-second : (b c : Bool) → (b || c) ≡ false → c ≡ false
 neither-second true c e = absurd (clash true e refl)
 neither-second false c e = e
 
+-- the same with what was copied already
+mixed-more : (t m b c s : Bool) → (t ≡ false → m ≡ b) → b ≡ (c || s) → (c ≡ true → t ≡ false) → ((c || (t && m)) || (not t && s)) ≡ m
+mixed-more true true b true s h e stay = refl
+mixed-more true false b true s h e stay = absurd (clash true (stay refl) refl)
+mixed-more true true b false s h e stay = refl
+mixed-more true false b false s h e stay = refl
+mixed-more false m b true s h e stay = sym (h refl ∙ e)
+mixed-more false m b false s h e stay = sym (h refl ∙ e)
+
 -- what is found where a node is touched, and what is copied where it isn't
 mixed : (t m b : Bool) → (t ≡ false → m ≡ b) → ((t && m) || (not t && b)) ≡ m
 mixed true true b h = refl
@@ -87,15 +96,16 @@ module _ (answer : Answer) (p : Program) (graph : GraphData) (new : List Arc) (v
   untouched-two (Some old) low e = (untouched-value answer p graph new old v r (r + 1) low e (omega arith), untouched-value answer p graph new old v r r low e (omega arith))
 
 module _ (answer : Answer) (f : Frame) (r : ℕ) (t : List Bool) (told : (v : ℕ) → v < count_in f → get_or t v false ≡ touched_at answer f r v) where
-  pub marks-all : (found old : List NodeNo) → HasNodes (count_in f) (λ v. touched_at answer f r v && marked_at answer f r v) found → HasNodes (count_in f) (marked_before answer f r) old
+  pub marks-all : (flags : List Bool) (copied found old : List NodeNo) → 0 < r → AreDivided answer f r flags old copied → HasNodes (count_in f) (λ v. is_listed v copied || (touched_at answer f r v && marked_at answer f r v)) found
       → HasNodes (count_in f) (marked_at answer f r) (found ++ filter (λ n. not (get_or t n.0 false)) old)
-  marks-all found old a b = record {
-    within = All-append (λ (n : NodeNo). n.0 < count_in f) found (filter (λ n. not (get_or t n.0 false)) old) a.within (All-filter (λ (n : NodeNo). not (get_or t n.0 false)) (λ (n : NodeNo). n.0 < count_in f) old b.within);
+  marks-all flags copied found old later b a = record {
+    within = All-append (λ (n : NodeNo). n.0 < count_in f) found (filter (λ n. not (get_or t n.0 false)) old) a.within (All-filter (λ (n : NodeNo). not (get_or t n.0 false)) (λ (n : NodeNo). n.0 < count_in f) old b.shown_within);
     listed = λ v low.
         list_any-append (λ (n : NodeNo). n.0 == v) found (filter (λ n. not (get_or t n.0 false)) old)
         ∙ ap (λ (c : Bool). c || is_listed v (filter (λ n. not (get_or t n.0 false)) old)) (a.listed v low)
-        ∙ ap (λ (c : Bool). (touched_at answer f r v && marked_at answer f r v) || c) (any-untouched (λ (n : NodeNo). n.0) t v old ∙ ap (λ (c : Bool). not c && is_listed v old) (told v low) ∙ ap (λ (c : Bool). not (touched_at answer f r v) && c) (b.listed v low))
-        ∙ mixed (touched_at answer f r v) (marked_at answer f r v) (marked_before answer f r v) (λ e. untouched-mark answer f.program.now f.graph.now (new_arcs f) (old_arcs f) v r e);
+        ∙ ap (λ (c : Bool). (is_listed v copied || (touched_at answer f r v && marked_at answer f r v)) || c) (any-untouched (λ (n : NodeNo). n.0) t v old ∙ ap (λ (c : Bool). not c && is_listed v old) (told v low))
+        ∙ mixed-more (touched_at answer f r v) (marked_at answer f r v) (marked_before answer f r v) (is_listed v copied) (is_listed v old)
+        (λ e. untouched-mark answer f.program.now f.graph.now (new_arcs f) (old_arcs f) v r e) (b.listed v low later) (b.stay v low);
   }
 
   pub changes-all : (found old : List Change) → HasSome answer f r (touched_at answer f r) found
@@ -185,9 +195,9 @@ module _ (answer : Answer) (f : Frame) (r : ℕ) where
           })
     ]
 
-  -- the marks are cleared
-  pub at-marked : (touched : ℕ → Bool) (lists : Lists) (m : Vec Bool Global) → StandAt answer f r touched lists → length m.items ≡ count_in f → StandAt answer f r touched (record lists { marked = m })
-  at-marked touched lists m u size = record {
+  -- other marks are shown
+  pub at-marked : (touched : ℕ → Bool) (lists : Lists) (m : Vec Bool Global) (ns : List NodeNo) → StandAt answer f r touched lists → length m.items ≡ count_in f → StandAt answer f r touched (record lists { marked = m; shown = ns })
+  at-marked touched lists m ns u size = record {
     starts = u.starts;
     new_now = u.new_now;
     new_before = u.new_before;

@@ -1,5 +1,5 @@
 -- Lists that stand at a round, while nodes are taken from the queue and visited.
-use Rattle.std.proofs.Common.{Vec, Global, ◌≡◌, ◌∙◌, ◌<◌, sym, ap, subst, ℕ, Bool, false, List, length, get_or, set, arith, inl, inr}
+use Rattle.std.proofs.Common.{Vec, Global, ◌≡◌, ◌∙◌, ◌<◌, sym, ap, subst, ℕ, Bool, true, false, List, length, get_or, set, arith, inl, inr}
 use Rattle.std.proofs.lemmas.Bool.{cases_eq}
 use Rattle.std.proofs.lemmas.Grind.{get_or-set_at}
 use Rattle.std.proofs.lemmas.List.{get_or-set_other, length-set}
@@ -15,8 +15,8 @@ use Rattle.graph_model.specs.GraphData.{GraphData}
 use Rattle.vertex_lang.specs.declared.arc.Arc.{Arc}
 use Rattle.vertex_lang.specs.declared.program.Program.{Program}
 use Rattle.round_kernel.specs.Sides.{IsRound}
-use Rattle.round_kernel.specs.Queues.{IsQueue}
-use Rattle.round_kernel.specs.Frames.{StandAt, IsPlace, IsKept, AreShown, count_in, was_touched_at}
+use Rattle.round_kernel.specs.Queues.{IsQueue, waits}
+use Rattle.round_kernel.specs.Frames.{StandAt, IsPlace, IsKept, AreShown, count_in, marked_before, was_touched_at}
 
 -- a round, as slices of the lists
 pub round-at : (answer : Answer) (p : Program) (graph : GraphData) (all : List Arc) (edges : List Bool) (degrees ds : List ℕ) (values vs : List Val) (r : ℕ) → ds ≡ degrees → vs ≡ values → IsRound answer p graph all edges degrees values r → IsRound answer p graph all edges ds vs r
@@ -91,8 +91,8 @@ module _ (answer : Answer) (f : Frame) (r : ℕ) where
   })
 
   -- a node that isn't visited yet
-  pub place-of : (touched : ℕ → Bool) (lists : Lists) (v : ℕ) → v < count_in f → touched v ≡ was_touched_at answer f r v → StandAt answer f r touched lists → AreShown answer f r lists → IsPlace answer f r v lists
-  place-of touched lists v low was u shown = record {
+  pub place-of : (touched : ℕ → Bool) (lists : Lists) (v : ℕ) → v < count_in f → touched v ≡ was_touched_at answer f r v → StandAt answer f r touched lists → (0 < r → get_or lists.marked.items v false ≡ marked_before answer f r v) → IsPlace answer f r v lists
+  place-of touched lists v low was u marked = record {
     start = ap (λ (vs : List Val). value_at vs v) u.starts ∙ get_or-map-range_with_len (start_of f.program.now f.graph.now) 0 (count_in f) v v Nil low (omega arith);
     starts_size = ap (λ (vs : List Val). length vs) u.starts ∙ length-map-range_with_len (start_of f.program.now f.graph.now) 0 (count_in f);
     new_now = u.new_now;
@@ -102,8 +102,9 @@ module _ (answer : Answer) (f : Frame) (r : ℕ) where
     touched_size = u.touched_size;
     touched = u.touched_are v low ∙ was;
     marked_size = u.marked_size;
-    marked = λ later. shown.shown v low later;
+    marked = marked;
   }
 
-  pub shown-still : (old new : Lists) → new.marked ≡ old.marked → AreShown answer f r old → AreShown answer f r new
-  shown-still old new e h = record { shown = λ v low later. ap (λ (m : List Bool). get_or m v false) (ap (λ (w : Vec Bool Global). w.items) e) ∙ h.shown v low later }
+  -- those that wait still are shown to be marked, where no more wait
+  pub shown-still : (old new : Lists) → new.marked ≡ old.marked → ((v : ℕ) → waits new.queue v ≡ true → waits old.queue v ≡ true) → AreShown answer f r old → AreShown answer f r new
+  shown-still old new e fewer h = record { shown = λ v low later waiting. ap (λ (m : List Bool). get_or m v false) (ap (λ (w : Vec Bool Global). w.items) e) ∙ h.shown v low later (fewer v waiting) }

@@ -1,9 +1,9 @@
 -- Nodes that wait: one more, one less, and those who still wait.
-use Rattle.std.proofs.Common.{◌≡◌, ◌∙◌, ◌<◌, ◌+◌, ◌++◌, ◌∷◌, [], sym, ap, subst, refl, ℕ, suc, Bool, true, false, List, length, get_or, set, take, drop, filter, arith, inl, inr}
+use Rattle.std.proofs.Common.{◌≡◌, ◌∙◌, ◌<◌, ◌≤◌, ◌+◌, ◌++◌, ◌∷◌, [], sym, ap, subst, refl, ℕ, suc, Bool, true, false, List, length, get_or, set, take, drop, filter, arith, inl, inr}
 use Rattle.std.specs.Prelude.{All, ◌||◌, ◌==◌, ◌⊎◌}
-use Rattle.std.proofs.lemmas.Bool.{cases_eq, cases_Bool, eq-eqb, ne_eqb}
+use Rattle.std.proofs.lemmas.Bool.{cases_eq, cases_lt, cases_Bool, eq-eqb, ne_eqb}
 use Rattle.std.proofs.lemmas.Grind.{get_or-set_at}
-use Rattle.std.proofs.lemmas.List.{get_or-set_other, length-set, length-append, get_or_append_left, append-nil}
+use Rattle.std.proofs.lemmas.List.{get_or-set_other, get_or_past, length-set, length-append, get_or_append_left, append-nil}
 use Rattle.std.proofs.Math.Seq.{get_or-append_seam, drop-cons}
 use Rattle.std.proofs.lemmas.List.Elements.{All-push, All-weaker, All-more, All-head, All-tail, All-cons, All-filter}
 use Rattle.std.proofs.lemmas.List.Sorted.{All-permutation}
@@ -11,7 +11,7 @@ use Rattle.graph_model.specs.GraphData.{GraphData}
 use Rattle.vertex_lang.specs.Arcs.{IsArc}
 use Rattle.round_kernel.specs.declared.rows.Rows.{Rows}
 use Rattle.round_kernel.specs.RowLists.{AreRows}
-use Rattle.std.proofs.lemmas.List.Folds.{list_any-append, list_any_more}
+use Rattle.std.proofs.lemmas.List.Folds.{list_any-append}
 use Rattle.graph_model.specs.declared.number.NodeNo.{NodeNo}
 use Rattle.vertex_lang.specs.declared.arc.Arc.{Arc}
 use Rattle.round_kernel.specs.declared.queue.Queue.{Queue}
@@ -75,6 +75,16 @@ module _ (n : ℕ) (q q' : Queue) (node : NodeNo) (u : IsQueue n q) (low : node.
 
   pub waits-added : q'.waits.items ≡ set q.waits.items node.0 true → waits q' node.0 ≡ true
   waits-added ew = ap (λ (ws : List Bool). get_or ws node.0 false) ew ∙ get_or-set_at q.waits.items node.0 node.0 true false refl (omega (arith, u.size))
+
+-- where one was taken out, the others that wait did
+pub still-waits : (waiting : List Bool) (n v : ℕ) → get_or (set waiting n false) v false ≡ true → get_or waiting v false ≡ true
+still-waits waiting n v e = elim (cases_eq v n) [
+  | inl same ↦ absurd (clash (get_or (set waiting n false) v false) (off (cases_lt n (length waiting)) same) e)
+  | inr other ↦ sym (get_or-set_other waiting n v false false other) ∙ e
+] where
+  off : (n < length waiting) ⊎ (length waiting ≤ n) → v ≡ n → get_or (set waiting n false) v false ≡ false
+  off (inl low) same = get_or-set_at waiting n v false false same low
+  off (inr high) same = get_or_past (set waiting n false) v false (omega (arith, high, same, length-set waiting n false))
 
 pub still-refl : (q : Queue) → StillWait q q
 still-refl q = record { still = λ v e. e }
@@ -172,19 +182,6 @@ row-hears arcs row u q e all = filtered arcs (subst (λ (xs : List Arc). All (λ
 pub marks-more : (marks : List NodeNo) (i : ℕ) (d : NodeNo) → i < length marks → (q q' : Queue) (touched : List Bool) → StillWait q q' → All (λ n. get_or touched n.0 false ≡ true → waits q n.0 ≡ true) (take i marks)
     → (get_or touched (get_or marks i d).0 false ≡ true → waits q' (get_or marks i d).0 ≡ true) → All (λ n. get_or touched n.0 false ≡ true → waits q' n.0 ≡ true) (take (i + 1) marks)
 marks-more marks i d low q q' touched s all here = more-of (λ (n : NodeNo). get_or touched n.0 false ≡ true → waits q n.0 ≡ true) (λ (n : NodeNo). get_or touched n.0 false ≡ true → waits q' n.0 ≡ true) marks i d low (λ n h t. s.still n.0 (h t)) all here
-
-pub marked-more : (marks : List NodeNo) (i : ℕ) (d : NodeNo) → i < length marks → (marked : List Bool) → (get_or marks i d).0 < length marked → ((v : ℕ) → get_or marked v false ≡ is_listed v (take i marks))
-    → (v : ℕ) → get_or (set marked (get_or marks i d).0 true) v false ≡ is_listed v (take (i + 1) marks)
-marked-more marks i d low marked within h v =
-    let n = get_or marks i d in
-    let more : is_listed v (take (i + 1) marks) ≡ (is_listed v (take i marks) || (n.0 == v)) = list_any_more (λ (m : NodeNo). m.0 == v) marks i d low in
-    elim (cases_eq v n.0) [
-      | inl same ↦ get_or-set_at marked n.0 v true false same within ∙ sym (more ∙ or-right (is_listed v (take i marks)) (n.0 == v) (eq-eqb n.0 v (sym same)))
-      | inr other ↦ get_or-set_other marked n.0 v true false other ∙ h v ∙ sym (more ∙ ap (λ (b : Bool). is_listed v (take i marks) || b) (ne_eqb n.0 v (λ s. other (sym s))) ∙ or-nothing (is_listed v (take i marks)))
-    ] where
-      or-nothing : (b : Bool) → (b || false) ≡ b
-      or-nothing true = refl
-      or-nothing false = refl
 
 -- one more cleared
 pub cleared-more : (marks : List NodeNo) (i : ℕ) (d : NodeNo) → i < length marks → (marked : List Bool) → (get_or marks i d).0 < length marked → ((v : ℕ) → get_or marked v false ≡ true → is_listed v (drop i marks) ≡ true)

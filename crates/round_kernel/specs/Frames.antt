@@ -1,6 +1,7 @@
 -- What stays the same in all rounds of a step, and what is to be found in a round.
 use Rattle.std.specs.Prelude.{◌≡◌, ◌<◌, ◌≤◌, ◌+◌, ◌-◌, ◌&&◌, ◌||◌, ◌⊎◌, not, ℕ, Bool, true, false, List, [], length, get_or, All, Contains, Option, Some}
 use Rattle.graph_model.specs.declared.value.Val.{Val}
+use Rattle.graph_model.specs.declared.number.NodeNo.{NodeNo}
 use Rattle.vertex_lang.specs.declared.arc.Arc.{Arc}
 use Rattle.vertex_lang.specs.Arcs.{IsArc}
 use Rattle.vertex_lang.specs.Leaves.{IsChecked}
@@ -13,7 +14,7 @@ use Rattle.round_kernel.specs.declared.history.Change.{Change}
 use Rattle.round_kernel.specs.declared.round.Frame.{Frame}
 use Rattle.round_kernel.specs.declared.round.Lists.{Lists}
 use Rattle.round_kernel.specs.Sides.{arcs_in, in_view, IsTurned, AreSent, IsRound}
-use Rattle.round_kernel.specs.Histories.{IsHistory, is_changed}
+use Rattle.round_kernel.specs.Histories.{IsHistory, is_changed, is_listed}
 use Rattle.round_kernel.specs.RowLists.{AreRows}
 use Rattle.round_kernel.specs.Queues.{waits}
 use Rattle.round_kernel.specs.declared.tally.Kept.{Kept}
@@ -101,9 +102,18 @@ pub record AreCalm (answer : Answer) (f : Frame) (r : ℕ) (lists : Lists) : Typ
   pub touched : (v : ℕ) → v < count_in f → waits lists.queue v ≡ false → touched_at answer f r v ≡ was_touched_at answer f r v
   pub counted : (v : ℕ) → v < count_in f → waits lists.queue v ≡ false → counted_at answer f r v ≡ false
 
--- the nodes that are shown to be marked are those of the view before
+-- of the nodes that wait, those that are shown to be marked are those of the view before
 pub record AreShown (answer : Answer) (f : Frame) (r : ℕ) (lists : Lists) : Type 0 where
-  pub shown : (v : ℕ) → v < count_in f → 0 < r → get_or lists.marked.items v false ≡ marked_before answer f r v
+  pub shown : (v : ℕ) → v < count_in f → 0 < r → waits lists.queue v ≡ true → get_or lists.marked.items v false ≡ marked_before answer f r v
+
+-- the nodes with a mark in the view before are in two lists: those that are copied stay untouched, and all that are flagged are among
+-- those that are shown
+pub record AreDivided (answer : Answer) (f : Frame) (r : ℕ) (marked : List Bool) (shown copied : List NodeNo) : Type 0 where
+  pub copied_within : All (λ n. n.0 < count_in f) copied
+  pub shown_within : All (λ n. n.0 < count_in f) shown
+  pub listed : (v : ℕ) → v < count_in f → 0 < r → marked_before answer f r v ≡ (is_listed v copied || is_listed v shown)
+  pub stay : (v : ℕ) → v < count_in f → is_listed v copied ≡ true → touched_at answer f r v ≡ false
+  pub flagged : (v : ℕ) → get_or marked v false ≡ true → is_listed v shown ≡ true
 
 -- ---- a visit
 

@@ -1,5 +1,5 @@
 -- A step between two rounds: what the lists hold, and what a round gives.
-use Rattle.std.specs.Prelude.{◌≡◌, ◌<◌, ◌+◌, ◌-◌, ◌||◌, ◌⊎◌, not, ℕ, Bool, true, false, List, length, map, get_or, All, Option, Some, None}
+use Rattle.std.specs.Prelude.{◌≡◌, ◌<◌, ◌+◌, ◌-◌, ◌||◌, ◌⊎◌, not, ℕ, Bool, true, false, List, [], length, map, get_or, All, Option, Some, None}
 use Rattle.graph_model.specs.GraphData.{GraphData}
 use Rattle.vertex_lang.specs.declared.arc.Arc.{Arc}
 use Rattle.vertex_lang.specs.declared.program.Program.{Program}
@@ -49,6 +49,7 @@ pub record AreAt (answer : Answer) (p : Program) (graph : GraphData) (all : List
 pub record AreIdle (lists : Lists) : Type 0 where
   pub none_waits : (v : ℕ) → waits lists.queue v ≡ false
   pub none_marked : (v : ℕ) → get_or lists.marked.items v false ≡ false
+  pub none_shown : lists.shown ≡ []
 
 -- touched before this round; where there's no view before, always
 abbrev pub was_touched : Answer → Program → GraphData → List Arc → Bool → List Bool → List Bool → ℕ → ℕ → Bool

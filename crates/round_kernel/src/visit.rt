@@ -70,6 +70,7 @@ impl Made {
     pub(crate) fn clear(&mut self)
         ensures marks { self.new.marks ≡ [] }
         ensures changes { self.new.changes ≡ [] }
+        ensures stirred { self.new.stirred ≡ self.old.stirred }
     {
         self.marks.clear();
         self.changes.clear();

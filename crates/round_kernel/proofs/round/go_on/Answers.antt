@@ -94,4 +94,5 @@ returns-clause-idle g c =
     record {
       none_waits = λ v. ap (λ (l : Lists). waits l.queue v) kept ∙ c.requires.idle.none_waits v;
       none_marked = λ v. ap (λ (l : Lists). get_or l.marked.items v false) kept ∙ c.requires.idle.none_marked v;
+      none_shown = ap (λ (l : Lists). l.shown) kept ∙ c.requires.idle.none_shown;
     }

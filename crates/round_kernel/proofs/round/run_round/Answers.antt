@@ -1,10 +1,23 @@
-use Rattle.std.proofs.Common.{◌≡◌, ◌∙◌, ◌+◌, ◌++◌, Bool, List, filter, length, get_or, false, sym, ap, subst, arith}
+use Rattle.std.proofs.Common.{Vec, Global, ◌≡◌, ◌∙◌, ◌<◌, ◌+◌, ◌-◌, ◌++◌, Bool, List, filter, length, get_or, false, sym, ap, subst, arith}
+use Rattle.std.specs.Prelude.{All}
+use Rattle.graph_model.specs.declared.number.NodeNo.{NodeNo}
 use Rattle.round_kernel.specs.declared.history.Change.{Change}
-use Rattle.round_kernel.specs.Histories.{HasChanges}
-use Rattle.round_kernel.specs.Frames.{AreStirred, HasSome, stirs, count_in, lone_at, touched_at}
+use Rattle.round_kernel.specs.Histories.{HasNodes, HasChanges, is_listed}
+use Rattle.round_kernel.specs.Frames.{AreDivided, AreStirred, HasSome, stirs, count_in, lone_at, marked_at, touched_at}
 use Rattle.round_kernel.proofs.Marking.{changes-now}
-use Rattle.round_kernel.proofs.Rounding.{changes-all, stirred-all}
+use Rattle.round_kernel.proofs.Rounding.{changes-all, marks-all, stirred-all}
 use Rattle.round_kernel.proofs.round.run_round.Goals as goal
+
+pub fill_queue-requires-clause-stirred : goal.fill_queue-requires-clause-stirred
+fill_queue-requires-clause-stirred g c = λ later. subst (λ (cs : List Change). AreStirred g.U.Updater.answer c.args.frame (c.args.round - 1) cs) (sym (c.as_slice.ensures ∙ c.clear.ensures.stirred)) (c.requires.stirred later)
+
+pub copy_old_marks-requires-clause-within : goal.copy_old_marks-requires-clause-within
+copy_old_marks-requires-clause-within g c = subst (λ (ns : List NodeNo). All (λ n. n.0 < count_in c.args.frame) ns) (sym c.in_ok-work.ensures.shown) c.in_ok-fill_queue.ensures.divided.shown_within
+
+pub copy_old_marks-requires-clause-flagged : goal.copy_old_marks-requires-clause-flagged
+copy_old_marks-requires-clause-flagged g c = λ v e.
+    ap (λ (ns : List NodeNo). is_listed v ns) c.in_ok-work.ensures.shown
+    ∙ c.in_ok-fill_queue.ensures.divided.flagged v (sym (ap (λ (m : Vec Bool Global). get_or m.items v false) c.in_ok-work.ensures.marked) ∙ e)
 
 pub copy_changes-requires-clause-touched : goal.copy_changes-requires-clause-touched
 copy_changes-requires-clause-touched g c = λ k d low.
@@ -37,3 +50,12 @@ returns-clause-stirred g c =
     subst (λ (cs : List Change). AreStirred answer f r cs) (sym (c.in_ok-copy_changes.ensures.stirred ∙ ap (λ (cs : List Change). cs ++ filter (λ x. stirs c.deref.result.now c.deref-2.result.now x.node.0) c.changes_after-changes.result.now) listed))
     (stirred-all answer f r c.copy_old_marks.new.lists c.in_ok-copy_old_marks.ensures.at c.deref.result.now c.deref-2.result.now c.deref.ensures.value c.deref-2.ensures.value found c.changes_after-changes.result.now
     (subst (λ (cs : List Change). HasSome answer f r (touched_at answer f r) cs) (sym c.in_ok-copy_old_marks.ensures.changes) c.in_ok-work.ensures.changes) c.changes_after-changes.ensures had)
+
+pub returns-clause-marks : goal.returns-clause-marks
+returns-clause-marks g c = λ later.
+    let answer = g.U.Updater.answer in
+    let f = c.args.frame in
+    let r = c.args.round in
+    let divided = subst (λ (ns : List NodeNo). AreDivided answer f r c.fill_queue.new.lists.marked.items ns c.fill_queue.new.copied) (sym c.in_ok-work.ensures.shown) c.in_ok-fill_queue.ensures.divided in
+    subst (λ (ns : List NodeNo). HasNodes (count_in f) (marked_at answer f r) ns) (sym c.in_ok-copy_old_marks.ensures.marks)
+    (marks-all answer f r c.visit_all.new.lists.touched.items c.in_ok-work.ensures.at.touched_are c.fill_queue.new.lists.marked.items c.fill_queue.new.copied c.visit_all.new.made.marks c.visit_all.new.lists.shown later divided c.in_ok-work.ensures.marks)

@@ -1,4 +1,4 @@
-use Rattle.std.proofs.Common.{◌≡◌, ◌∙◌, ◌<◌, ◌+◌, ap, sym, subst, refl, arith}
+use Rattle.std.proofs.Common.{◌≡◌, ◌∙◌, ◌<◌, ◌+◌, Bool, false, List, get_or, ap, sym, subst, refl, arith}
 use Rattle.std.specs.List.{range_with_len}
 use Rattle.std.proofs.lemmas.List.FromFn.{length-range_with_len}
 use Rattle.std.proofs.lemmas.List.Sums.{count_by-le-length}
@@ -6,7 +6,7 @@ use Rattle.round_kernel.specs.declared.queue.Queue.{Queue}
 use Rattle.round_kernel.specs.declared.round.Lists.{Lists}
 use Rattle.round_kernel.specs.Queues.{waits}
 use Rattle.round_kernel.specs.Frames.{counted_at, count_in}
-use Rattle.round_kernel.proofs.Waiting.{queue-at, queue-step}
+use Rattle.round_kernel.proofs.Waiting.{queue-at, queue-step, still-waits}
 use Rattle.round_kernel.proofs.Visiting.{done, one-most}
 use Rattle.round_kernel.proofs.Standing.{at-queue, place-of, shown-still}
 use Rattle.round_kernel.proofs.Stepping.{IsVisiting, meanwhile, visiting-start, visiting-next, waiting-was}
@@ -17,7 +17,9 @@ pub loop-node-init : goal.loop-node-init
 loop-node-init g c = record {
   visiting = visiting-start g.U.Updater.answer c.args.frame c.args.round c.args.lists.now c.args.made.now c.requires.at c.requires.calm c.requires.marks c.requires.changes;
   keeping = keeping-start g.U.Updater.answer c.args.frame c.args.round c.args.lists.now c.args.kept.now c.requires.kept_size c.requires.calm c.requires.kept;
-  shown = refl;
+  shown = c.requires.shown;
+  marked = refl;
+  listed = refl;
   calls = omega arith;
 }
 
@@ -37,7 +39,7 @@ visit_one-requires-clause-at g c =
     let low : c.in-Some.node.0 < count_in f = omega (arith, c.in-Some.ensures.within, c.loop-node.invariant.visiting.at.queue.size) in
     place-of answer f r (meanwhile answer f r lists0.queue) (record lists0 { queue = q1 }) c.in-Some.node.0 low (waiting-was answer f r lists0.queue c.in-Some.node.0 c.in-Some.ensures.was)
     (at-queue answer f r (meanwhile answer f r lists0.queue) lists0 q1 c.loop-node.invariant.visiting.at (queue-step _ lists0.queue q1 c.loop-node.invariant.visiting.at.queue c.in-Some.ensures.queue))
-    (shown-still answer f r c.args.lists.now (record lists0 { queue = q1 }) c.loop-node.invariant.shown c.requires.shown)
+    (λ later. c.loop-node.invariant.shown.shown c.in-Some.node.0 low later c.in-Some.ensures.was)
 
 pub visit_one-requires-clause-sums_size : goal.visit_one-requires-clause-sums_size
 visit_one-requires-clause-sums_size g c = c.loop-node.invariant.keeping.size
@@ -64,11 +66,14 @@ loop-node-preserved g c =
     let low : c.in-Some.node.0 < count_in f = omega (arith, c.in-Some.ensures.within, c.loop-node.invariant.visiting.at.queue.size) in
     let same : lists2.queue ≡ q1 = ap (λ (l : Lists). l.queue) c.in_ok-work.ensures.kept in
     record {
-      visiting = subst (λ (q : Queue). IsVisiting answer f r q lists2 c.visit_one.new.made (c.loop-node.work + c.in_ok-work.field-0)) (sym same) (visiting-next answer f r lists0.queue q1 lists0 lists2 c.loop-node.made c.visit_one.new.made c.loop-node.work c.in_ok-work.field-0 c.in-Some.node refl low c.in-Some.ensures.was c.in-Some.ensures.taken
+      visiting = subst (λ (q : Queue). IsVisiting answer f r c.args.made.now.marks q lists2 c.visit_one.new.made (c.loop-node.work + c.in_ok-work.field-0)) (sym same) (visiting-next answer f r c.args.made.now.marks lists0.queue q1 lists0 lists2 c.loop-node.made c.visit_one.new.made c.loop-node.work c.in_ok-work.field-0 c.in-Some.node refl low c.in-Some.ensures.was c.in-Some.ensures.taken
           (queue-step _ lists0.queue q1 c.loop-node.invariant.visiting.at.queue c.in-Some.ensures.queue)
           c.in_ok-work.ensures.kept c.in_ok-work.ensures.touched c.in_ok-work.ensures.count c.in_ok-work.ensures.marks c.in_ok-work.ensures.changes c.loop-node.invariant.visiting);
       keeping = subst (λ (q : Queue). IsKeeping answer f r q c.visit_one.new.kept) (sym same) (keeping-next answer f r lists0.queue q1 c.loop-node.kept c.visit_one.new.kept c.in-Some.node.0 low c.loop-node.invariant.visiting.at.queue.size c.in-Some.ensures.taken
           c.visit_one.ensures.sums_size c.in_ok-work.ensures.sums c.in_ok-work.ensures.others c.loop-node.invariant.keeping);
-      shown = ap (λ (l : Lists). l.marked) c.in_ok-work.ensures.kept ∙ c.loop-node.invariant.shown;
+      shown = shown-still answer f r lists0 lists2 (ap (λ (l : Lists). l.marked) c.in_ok-work.ensures.kept) (λ v e. still-waits lists0.queue.waits.items c.in-Some.node.0 v
+          (sym (ap (λ (bs : List Bool). get_or bs v false) c.in-Some.ensures.taken) ∙ sym (ap (λ (q : Queue). waits q v) same) ∙ e)) c.loop-node.invariant.shown;
+      marked = ap (λ (l : Lists). l.marked) c.in_ok-work.ensures.kept ∙ c.loop-node.invariant.marked;
+      listed = ap (λ (l : Lists). l.shown) c.in_ok-work.ensures.kept ∙ c.loop-node.invariant.listed;
       calls = omega (arith, c.loop-node.invariant.calls, c.in_ok-work.ensures.calls);
     }

@@ -40,6 +40,7 @@ returns-clause-at g c =
       new_degrees = c.args.degrees.new;
       touched = c.in_ok-touched.touched;
       marked = c.in_ok-marked.marked;
+      shown = c.new-5.result;
       watched = c.in_ok-watched.watched;
       turned = c.in_ok-turned.turned;
       queue = c.in_ok-queue.queue;
