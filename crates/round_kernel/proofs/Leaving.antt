@@ -1,6 +1,6 @@
 -- How many arcs leave each node in a view, counted row by row.
 use Rattle.std.proofs.Common.{◌≡◌, ◌∙◌, ◌<◌, ◌≤◌, ◌+◌, ◌^◌, sym, ap, subst, refl, ℕ, Bool, true, false, List, length, get_or, set, take, filter, cond, arith, inl, inr, length-set}
-use Rattle.std.specs.Prelude.{All, Contains, ◌≢◌, ◌==◌, ◌⊎◌, if◌then◌else◌}
+use Rattle.std.specs.Prelude.{All, Contains, ◌≢◌, ◌==◌, if◌then◌else◌}
 use Rattle.std.specs.List.Sorted.{IsPermutation}
 use Rattle.std.proofs.lemmas.Bool.{cases_Bool, cases_eq}
 use Rattle.std.proofs.lemmas.Grind.{get_or-set_at}

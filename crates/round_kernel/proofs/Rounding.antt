@@ -1,6 +1,6 @@
 -- What a round makes: what was found at the touched nodes, and what is copied from the view before at the others.
 use Rattle.std.proofs.Common.{Vec, Global, ◌≡◌, ◌∙◌, ◌<◌, ◌+◌, ◌-◌, ◌++◌, ◌∷◌, [], suc, sym, ap, subst, refl, ℕ, ℤ, Bool, true, false, List, Option, Some, None, length, get_or, filter, arith, inl, inr}
-use Rattle.std.specs.Prelude.{All, ◌&&◌, ◌||◌, ◌==◌, ◌⊎◌, not, if◌then◌else◌}
+use Rattle.std.specs.Prelude.{◌&&◌, ◌||◌, ◌==◌, ◌⊎◌, not, if◌then◌else◌}
 use Rattle.std.specs.List.{list_any}
 use Rattle.std.proofs.lemmas.Bool.{cases_Bool, eqb-true}
 use Rattle.std.proofs.lemmas.List.Folds.{list_any-append}

@@ -1,7 +1,6 @@
-use Rattle.std.proofs.Common.{ℕ, ◌≡◌, true, inl, inr, ◌∙◌, ◌<◌, Bool, false, List, length, get_or, sym, ap, subst, arith}
+use Rattle.std.proofs.Common.{ℕ, ◌≡◌, ◌∙◌, ◌<◌, Bool, false, List, length, get_or, sym, ap, subst, arith}
 use Rattle.std.specs.Prelude.{All, ◌==◌, replicate}
-use Rattle.std.proofs.lemmas.Bool.{cases_lt}
-use Rattle.std.proofs.lemmas.List.{get_or-replicate, get_or_past, get_or_read, length-replicate}
+use Rattle.std.proofs.lemmas.List.{get_or_read, length-replicate}
 use Rattle.round_kernel.specs.Counts.{AreCounted}
 use Rattle.std.proofs.lemmas.List.Elements.{All-filter, All-weaker}
 use Rattle.std.proofs.lemmas.List.Sorted.{All-permutation}

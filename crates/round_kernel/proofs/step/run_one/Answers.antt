@@ -1,12 +1,11 @@
-use Rattle.std.proofs.Common.{◌+◌, refl, arith}
+use Rattle.std.proofs.Common.{arith}
 use Rattle.std.specs.List.{range_with_len}
 use Rattle.std.proofs.lemmas.List.FromFn.{length-range_with_len}
 use Rattle.std.proofs.lemmas.List.Sums.{count_by-le-length}
 use Rattle.lone_work.specs.CountLaws.{work-by-rounds}
-use Rattle.round_kernel.specs.Frames.{count_in, counted_at, new_arcs, old_arcs, old_lone_at}
+use Rattle.round_kernel.specs.Frames.{count_in, counted_at, new_arcs, old_arcs}
 use Rattle.round_kernel.proofs.Growing.{rounds-more, changes-last}
 use Rattle.round_kernel.proofs.KeptRounds.{kept-on}
-use Rattle.round_kernel.proofs.Marking.{changes-now, old-step}
 use Rattle.round_kernel.proofs.step.run_one.Goals as goal
 
 pub run_round-requires-clause-before : goal.run_round-requires-clause-before
