@@ -1,8 +1,8 @@
 -- What is told of the nodes at round 0 and one round on.
-use Rattle.std.proofs.Common.{◌≡◌, ◌∙◌, ◌<◌, ◌≤◌, ◌+◌, ◌-◌, [], sym, ap, subst, refl, ℕ, Bool, true, false, List, length, get_or, take, arith, inl, inr}
+use Rattle.std.proofs.Common.{◌≡◌, ◌∙◌, ◌<◌, ◌≤◌, ◌+◌, ◌-◌, ◌++◌, [], sym, ap, subst, refl, ℕ, Bool, true, false, List, length, get_or, take, arith, inl, inr}
 use Rattle.std.specs.Prelude.{◌||◌, ◌==◌, ◌⊎◌, replicate}
 use Rattle.std.proofs.lemmas.Bool.{cases_lt, cases_eq, cases_Bool, eq-eqb, ne_eqb}
-use Rattle.std.proofs.lemmas.List.Folds.{list_any_more}
+use Rattle.std.proofs.lemmas.List.Folds.{list_any-append, list_any_more}
 use Rattle.std.proofs.lemmas.List.{get_or-replicate, get_or_past, length-replicate}
 use Rattle.graph_model.specs.declared.value.Val.{Val}
 use Rattle.vertex_lang.specs.declared.arc.Arc.{Arc}
@@ -104,6 +104,25 @@ set-more IsRight none cs i d low before mid after set size right others = record
 
   more : (u : ℕ) → is_changed u (take (i + 1) cs) ≡ (is_changed u (take i cs) || (node == u))
   more u = list_any_more (λ (c : Change). c.node.0 == u) cs i d low
+
+-- what is set for two lists, one behind the other
+pub set-both : {A : Type 0} (IsRight : ℕ → A → Type 0) (none : A) (one two : List Change) (before mid after : List A) → AreSet IsRight none one before mid → AreSet IsRight none two mid after → AreSet IsRight none (one ++ two) before after
+set-both IsRight none one two before mid after first second = record {
+  size = second.size ∙ first.size;
+  right = λ u listed. elim (cases_Bool (is_changed u two)) [
+    | inl on ↦ second.right u on
+    | inr off ↦ subst (IsRight u) (sym (second.others u off)) (first.right u (or-first (is_changed u one) (is_changed u two) (sym (both u) ∙ listed) off))
+  ];
+  others = λ u off.
+      let out : (is_changed u one || is_changed u two) ≡ false = sym (both u) ∙ off in
+      second.others u (second-fails (is_changed u one) (is_changed u two) out) ∙ first.others u (first-fails (is_changed u one) (is_changed u two) out);
+} where
+  both : (u : ℕ) → is_changed u (one ++ two) ≡ (is_changed u one || is_changed u two)
+  both u = list_any-append (λ (c : Change). c.node.0 == u) one two
+
+  second-fails : (a b : Bool) → (a || b) ≡ false → b ≡ false
+  second-fails true b e = absurd cc
+  second-fails false b e = e
 
 -- ---- one round on
 

@@ -1,6 +1,6 @@
 -- What a round makes: what was found at the touched nodes, and what is copied from the view before at the others.
 use Rattle.std.proofs.Common.{Vec, Global, ◌≡◌, ◌∙◌, ◌<◌, ◌+◌, ◌-◌, ◌++◌, ◌∷◌, [], suc, sym, ap, subst, refl, ℕ, ℤ, Bool, true, false, List, Option, Some, None, length, get_or, filter, arith, inl, inr}
-use Rattle.std.specs.Prelude.{◌&&◌, ◌||◌, ◌==◌, ◌⊎◌, not, if◌then◌else◌}
+use Rattle.std.specs.Prelude.{All, ◌&&◌, ◌||◌, ◌==◌, ◌⊎◌, not, if◌then◌else◌}
 use Rattle.std.specs.List.{list_any}
 use Rattle.std.proofs.lemmas.Bool.{cases_Bool, eqb-true}
 use Rattle.std.proofs.lemmas.List.Folds.{list_any-append}
@@ -77,6 +77,10 @@ mixed-more true true b false s h e stay = refl
 mixed-more true false b false s h e stay = refl
 mixed-more false m b true s h e stay = sym (h refl ∙ e)
 mixed-more false m b false s h e stay = sym (h refl ∙ e)
+
+-- what is listed behind others, where that is asked for
+pub listed-when : {X : Type 0} (b : Bool) → b ≡ true → (test : X → Bool) (made start found xs : List X) → made ≡ start ++ filter (λ x. b && test x) xs → start ≡ found → made ≡ found ++ filter test xs
+listed-when b asked test made start found xs e from = e ∙ ap (λ ys. ys ++ filter (λ x. b && test x) xs) from ∙ ap (λ (c : Bool). found ++ filter (λ x. c && test x) xs) asked
 
 -- what is found where a node is touched, and what is copied where it isn't
 mixed : (t m b : Bool) → (t ≡ false → m ≡ b) → ((t && m) || (not t && b)) ≡ m
@@ -194,6 +198,14 @@ module _ (answer : Answer) (f : Frame) (r : ℕ) where
                 (ap (λ (bits : List Bool). get_or bits v false) ew ∙ ap (λ n. get_or lists.watched.items n false) (sym from) ∙ u.watched_are second i d within turned));
           })
     ]
+
+  -- all that changes in the one view and in the other
+  pub stirred-both : (old new : List Change) → old ≡ get_or f.history.now.changes r [] → All (λ c. c.node.0 < count_in f) old → HasChanges (count_in f) (lone_at answer f r) (lone_at answer f (r + 1)) new → AreStirred answer f r (old ++ new)
+  stirred-both old new eo within news = record {
+    within = All-append (λ (c : Change). c.node.0 < count_in f) old new within news.within;
+    old = λ v low e. inl (list_any-append (λ (c : Change). c.node.0 == v) old new ∙ ap (λ (b : Bool). b || is_changed v new) (ap (λ (cs : List Change). is_changed v cs) eo ∙ e));
+    new = λ v low e. inl (list_any-append (λ (c : Change). c.node.0 == v) old new ∙ or-right (is_changed v old) (is_changed v new) (news.listed v low ∙ e));
+  }
 
   -- other marks are shown
   pub at-marked : (touched : ℕ → Bool) (lists : Lists) (m : Vec Bool Global) (ns : List NodeNo) → StandAt answer f r touched lists → length m.items ≡ count_in f → StandAt answer f r touched (record lists { marked = m; shown = ns })

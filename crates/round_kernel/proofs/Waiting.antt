@@ -35,6 +35,15 @@ pub or-first : (a b : Bool) → (a || b) ≡ true → b ≡ false → a ≡ true
 or-first true b e f = refl
 or-first false b e f = absurd (clash b f e)
 
+-- what is true of two lists, one behind the other, is true of each
+pub all-front : {X : Type 0} (P : X → Type 0) (xs ys : List X) → All P (xs ++ ys) → All P xs
+all-front P [] ys h = λ i d low. absurd (omega (arith, low))
+all-front P (x ∷ xs) ys h = All-cons P x xs (All-head P x (xs ++ ys) h) (all-front P xs ys (All-tail P x (xs ++ ys) h))
+
+pub all-back : {X : Type 0} (P : X → Type 0) (xs ys : List X) → All P (xs ++ ys) → All P ys
+all-back P [] ys h = h
+all-back P (x ∷ xs) ys h = all-back P xs ys (All-tail P x (xs ++ ys) h)
+
 -- one more in the list
 pub listed-push : (v : ℕ) (nodes : List NodeNo) (n : NodeNo) → is_listed v (nodes ++ n ∷ []) ≡ (is_listed v nodes || (n.0 == v))
 listed-push v nodes n = list_any-append (λ (m : NodeNo). m.0 == v) nodes (n ∷ []) ∙ ap (λ (b : Bool). is_listed v nodes || b) (or-none (n.0 == v)) where

@@ -20,7 +20,7 @@ use crate::chained::ChainedLists;
 use crate::degrees::Degrees;
 use crate::history::{Change, History};
 use crate::past::{Listed, Past};
-use crate::round::{Frame, Lists, go_on, run_round};
+use crate::round::{Frame, Lists, go_on, run_round, stirred_after};
 use crate::rows::Rows;
 use crate::sorted::in_node_order;
 use crate::tally::Kept;
@@ -249,7 +249,7 @@ fn run_one<U: Updater>(
     requires frame { IsFrame U.answer frame frame.limit }
     requires round { round < frame.limit }
     requires history { HasRounds U.answer frame round history.old }
-    requires stirred { 0 < round → AreStirred U.answer frame (round - 1) made.old.stirred }
+    requires stirred { 0 < round → IsTrue made.old.few → AreStirred U.answer frame (round - 1) made.old.stirred }
     requires at { StandAt U.answer frame round (was_touched_at U.answer frame round) lists.old }
     requires idle { AreIdle lists.old }
     requires kept_size { length kept.old ≡ count_in frame }
@@ -261,7 +261,7 @@ fn run_one<U: Updater>(
     ensures idle { OnOk result (AreIdle lists.new) }
     ensures kept_size { length kept.new ≡ count_in frame.entry }
     ensures kept { OnOk result (AreKept U.answer frame.entry round (was_touched_at U.answer frame.entry (round + 1)) kept.new) }
-    ensures stirred { OnOk result (AreStirred U.answer frame.entry round made.new.stirred) }
+    ensures stirred { OnOk result (IsTrue made.new.few → AreStirred U.answer frame.entry round made.new.stirred) }
     ensures work { IfOk result (λ n. work U.answer frame.entry.program.now frame.entry.graph.now (new_arcs frame.entry) (old_arcs frame.entry) (round + 1) ≡ work U.answer frame.entry.program.now frame.entry.graph.now (new_arcs frame.entry) (old_arcs frame.entry) round + n) }
     ensures few { IfOk result (λ n. n ≤ 1_000_000) }
     ensures calls { IfOk result (λ n. U.calls updater.new ≡ U.calls updater.old + n) }
@@ -270,11 +270,19 @@ fn run_one<U: Updater>(
     let work = run_round(
         alloc, frame, before, round, lists, kept, aids, made, updater,
     )?;
+    let stirred = stirred_after(
+        frame,
+        made.few,
+        made.stirred.as_slice(),
+        made.changes.as_slice(),
+        round,
+        updater,
+    );
     go_on(
         frame,
         before,
         made.changes.as_slice(),
-        made.stirred.as_slice(),
+        stirred,
         round,
         lists,
         updater,
@@ -284,7 +292,7 @@ fn run_one<U: Updater>(
         round,
         lists,
         made.changes.as_slice(),
-        made.stirred.as_slice(),
+        stirred,
         updater,
     );
     in_node_order(frame, round, lists, &aids.told, &mut made.changes, updater)?;

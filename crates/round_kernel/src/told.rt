@@ -1,6 +1,6 @@
 //! Which nodes may send something else in two rounds: in those of two views, or in a round and the one before it.
 
-ghost use Rattle.std.specs.Prelude.{◌≡◌, ◌<◌, ◌+◌, ◌==◌, ◌≢◌, ℕ, true, false, filter, length, get_or, All, IfOk, IsTrue};
+ghost use Rattle.std.specs.Prelude.{◌≡◌, ◌<◌, ◌+◌, ◌++◌, ◌==◌, ◌≢◌, ℕ, true, false, filter, length, get_or, All, IfOk, IsTrue};
 ghost use Rattle.vertex_lang.specs.Ignoring.{IgnoresOutdeg};
 ghost use Rattle.round_kernel.specs.Frames.{AreStirred, IsFrame, StandAt, count_in, lone_at, old_lone_at, was_touched_at};
 ghost use Rattle.round_kernel.specs.Histories.{HasChanges};
@@ -10,7 +10,7 @@ ghost use Rattle.round_kernel.specs.RowLists.{IsGrouped};
 
 use crate::history::Change;
 use crate::message::is_other;
-use crate::round::{Frame, Lists};
+use crate::round::{Frame, Lists, Stirred};
 use crate::turned::Turned;
 use graph_model::NodeNo;
 use std::alloc::Global;
@@ -68,19 +68,20 @@ impl Told {
         round: u32,
         lists: &Lists,
         new: &[Change],
-        stirred: &[Change],
+        stirred: Stirred<'_>,
         _updater: &U,
     )
         requires frame { IsFrame U.answer frame frame.limit }
         requires round { round < frame.limit }
         requires at { StandAt U.answer frame (round + 1) (was_touched_at U.answer frame (round + 1)) lists.now }
         requires new { HasChanges (count_in frame) (lone_at U.answer frame round) (lone_at U.answer frame (round + 1)) new.now }
-        requires stirred { AreStirred U.answer frame round stirred.now }
+        requires stirred { AreStirred U.answer frame round (stirred.one.now ++ stirred.two.now) }
         requires told { StandsTold U.answer frame round self.old }
         ensures { StandsTold U.answer frame.entry (round + 1) self.new }
     {
         self.move_all(round + 1, new);
-        self.part_all(frame, lists, stirred);
+        self.part_all(frame, lists, stirred.one);
+        self.part_all(frame, lists, stirred.two);
     }
 
     // Nodes change in the new view to a round: that they did so.

@@ -51,8 +51,9 @@ pub(crate) struct Sides<'a> {
 pub(crate) struct Made {
     pub(crate) marks: List<NodeNo>,
     pub(crate) changes: List<Change>,
-    /// What changes to the next round in either view, but at nodes that were never touched, from which no turned arc leaves,
-    /// and of which the message doesn't depend on how many arcs do: of these nobody has to be told.
+    /// Whether few touched nodes change to the next round. Then all that changes to it in either view follows, but at nodes that were
+    /// never touched and from which no turned arc leaves: of these nobody has to be told.
+    pub(crate) few: bool,
     pub(crate) stirred: List<Change>,
 }
 
@@ -62,6 +63,7 @@ impl Made {
         Made {
             marks: List::new(alloc),
             changes: List::new(alloc),
+            few: false,
             stirred: List::new(alloc),
         }
     }
@@ -70,6 +72,7 @@ impl Made {
     pub(crate) fn clear(&mut self)
         ensures marks { self.new.marks ≡ [] }
         ensures changes { self.new.changes ≡ [] }
+        ensures few { self.new.few ≡ self.old.few }
         ensures stirred { self.new.stirred ≡ self.old.stirred }
     {
         self.marks.clear();

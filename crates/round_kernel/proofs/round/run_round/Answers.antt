@@ -1,15 +1,16 @@
-use Rattle.std.proofs.Common.{Vec, Global, ◌≡◌, ◌∙◌, ◌<◌, ◌+◌, ◌-◌, ◌++◌, Bool, List, filter, length, get_or, false, sym, ap, subst, arith}
+use Rattle.std.proofs.Common.{Vec, Global, ◌≡◌, ◌∙◌, ◌<◌, ◌+◌, ◌-◌, ◌++◌, Bool, List, filter, length, get_or, true, false, sym, ap, subst, arith}
 use Rattle.std.specs.Prelude.{All}
 use Rattle.graph_model.specs.declared.number.NodeNo.{NodeNo}
 use Rattle.round_kernel.specs.declared.history.Change.{Change}
 use Rattle.round_kernel.specs.Histories.{HasNodes, HasChanges, is_listed}
 use Rattle.round_kernel.specs.Frames.{AreDivided, AreStirred, HasSome, stirs, count_in, lone_at, marked_at, touched_at}
 use Rattle.round_kernel.proofs.Marking.{changes-now}
-use Rattle.round_kernel.proofs.Rounding.{changes-all, marks-all, stirred-all}
+use Rattle.round_kernel.proofs.Rounding.{changes-all, listed-when, marks-all, stirred-all}
 use Rattle.round_kernel.proofs.round.run_round.Goals as goal
 
-pub fill_queue-requires-clause-stirred : goal.fill_queue-requires-clause-stirred
-fill_queue-requires-clause-stirred g c = λ later. subst (λ (cs : List Change). AreStirred g.U.Updater.answer c.args.frame (c.args.round - 1) cs) (sym (c.as_slice.ensures ∙ c.clear.ensures.stirred)) (c.requires.stirred later)
+pub stirred_before-stirred-requires-clause-stirred : goal.stirred_before-stirred-requires-clause-stirred
+stirred_before-stirred-requires-clause-stirred g c = λ later few.
+    subst (λ (cs : List Change). AreStirred g.U.Updater.answer c.args.frame (c.args.round - 1) cs) (sym (c.as_slice.ensures ∙ c.clear.ensures.stirred)) (c.requires.stirred later (subst (λ (b : Bool). b ≡ true) c.clear.ensures.few few))
 
 pub copy_old_marks-requires-clause-within : goal.copy_old_marks-requires-clause-within
 copy_old_marks-requires-clause-within g c = subst (λ (ns : List NodeNo). All (λ n. n.0 < count_in c.args.frame) ns) (sym c.in_ok-work.ensures.shown) c.in_ok-fill_queue.ensures.divided.shown_within
@@ -40,15 +41,18 @@ returns-clause-changes g c =
     (subst (λ (cs : List Change). HasSome answer f r (touched_at answer f r) cs) (sym c.in_ok-copy_old_marks.ensures.changes) c.in_ok-work.ensures.changes) had)
 
 pub returns-clause-stirred : goal.returns-clause-stirred
-returns-clause-stirred g c =
+returns-clause-stirred g c = λ few.
     let answer = g.U.Updater.answer in
     let f = c.args.frame in
     let r = c.args.round in
     let found = c.copy_old_marks.new.made.changes in
-    let had = changes-now answer f r c.requires.frame c.requires.round c.changes_after-changes.result.now c.changes_after-changes.ensures in
-    let listed : c.list_all.new.stirred ≡ found = c.in_ok-list_all.ensures ∙ ap (λ (cs : List Change). cs ++ c.as_slice-2.result.now) c.clear-2.ensures ∙ c.as_slice-2.ensures in
-    subst (λ (cs : List Change). AreStirred answer f r cs) (sym (c.in_ok-copy_changes.ensures.stirred ∙ ap (λ (cs : List Change). cs ++ filter (λ x. stirs c.deref.result.now c.deref-2.result.now x.node.0) c.changes_after-changes.result.now) listed))
-    (stirred-all answer f r c.copy_old_marks.new.lists c.in_ok-copy_old_marks.ensures.at c.deref.result.now c.deref-2.result.now c.deref.ensures.value c.deref-2.ensures.value found c.changes_after-changes.result.now
+    let old = c.changes_after-changes.result.now in
+    let stirring : Change → Bool = λ x. stirs c.deref.result.now c.deref-2.result.now x.node.0 in
+    let had = changes-now answer f r c.requires.frame c.requires.round old c.changes_after-changes.ensures in
+    let listed : c.list_if.new.stirred ≡ found = c.in_ok-list_if.ensures few ∙ ap (λ (cs : List Change). cs ++ c.as_slice-2.result.now) c.clear-2.ensures ∙ c.as_slice-2.ensures in
+    let copied : c.copy_changes.new.stirred ≡ found ++ filter stirring old = listed-when _ few stirring c.copy_changes.new.stirred c.list_if.new.stirred found old c.in_ok-copy_changes.ensures.stirred listed in
+    subst (λ (cs : List Change). AreStirred answer f r cs) (sym copied)
+    (stirred-all answer f r c.copy_old_marks.new.lists c.in_ok-copy_old_marks.ensures.at c.deref.result.now c.deref-2.result.now c.deref.ensures.value c.deref-2.ensures.value found old
     (subst (λ (cs : List Change). HasSome answer f r (touched_at answer f r) cs) (sym c.in_ok-copy_old_marks.ensures.changes) c.in_ok-work.ensures.changes) c.changes_after-changes.ensures had)
 
 pub returns-clause-marks : goal.returns-clause-marks

@@ -1,4 +1,4 @@
-use Rattle.std.proofs.Common.{◌≡◌, ◌<◌, ◌≤◌, ◌+◌, ◌*◌, ◌-◌, length}
+use Rattle.std.proofs.Common.{◌≡◌, ◌<◌, ◌≤◌, ◌+◌, ◌*◌, ◌-◌, true, length}
 use Rattle.lone_work.specs.Work.{work}
 use Rattle.round_kernel.specs.Rounds.{AreIdle}
 use Rattle.round_kernel.specs.Aiding.{StandsAided}
@@ -13,7 +13,7 @@ invariant-loop-round g l = record {
   idle : AreIdle l.lists;
   kept_size : length l.kept.items ≡ count_in l.frame;
   kept : 0 < l.round → AreKept g.U.Updater.answer l.frame (l.round - 1) (was_touched_at g.U.Updater.answer l.frame l.round) l.kept.items;
-  stirred : 0 < l.round → AreStirred g.U.Updater.answer l.frame (l.round - 1) l.made.stirred;
+  stirred : 0 < l.round → l.made.few ≡ true → AreStirred g.U.Updater.answer l.frame (l.round - 1) l.made.stirred;
   aided : StandsAided g.U.Updater.answer l.frame l.round l.aids;
   within : l.round ≤ l.frame.limit;
   work : l.work ≡ work g.U.Updater.answer l.frame.program.now l.frame.graph.now (new_arcs l.frame) (old_arcs l.frame) l.round;
