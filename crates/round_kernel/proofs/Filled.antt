@@ -24,7 +24,7 @@ use Rattle.round_kernel.specs.Rounds.{old_view, TellParted}
 use Rattle.round_kernel.specs.Frames.{AreStirred, IsFrame, IsQuiet, changes_at, StandAt, AreCalm, count_in, lone_at, old_lone_at, new_arcs, old_arcs, was_touched_at, marked_before}
 use Rattle.round_kernel.proofs.Waiting.{clash}
 use Rattle.round_kernel.proofs.Calm.{Stays, Same, Still, StartsSilent, calm-first}
-use Rattle.round_kernel.proofs.Filling.{changed-at, listed-at, unchanged-at, heard-still, idle-later, idle-start}
+use Rattle.round_kernel.proofs.Filling.{changed-at, listed-at, unchanged-at, heard-still, idle-later, idle-start, same-if-still}
 use Rattle.round_kernel.proofs.Calming.{calm-by}
 use Rattle.round_kernel.proofs.Marking.{old-step}
 use Rattle.round_kernel.proofs.Rounding.{touched-on}
@@ -88,11 +88,10 @@ module _ (answer : Answer) (f : Frame) (r : ℕ) (frame : IsFrame answer f f.lim
 
   -- ---- later
 
-  module _ (k : ℕ) (at : r ≡ suc k) (lists : Lists) (od nd : List ℕ) (w touched parted : List Bool) (on nn : List Val) (bs : List Change)
+  module _ (k : ℕ) (at : r ≡ suc k) (lists : Lists) (od nd : List ℕ) (w touched parted : List Bool) (on nn : List Val)
       (u : StandAt answer f r (was_touched_at answer f r) lists) (below : r < f.limit)
       (eod : od ≡ lists.old_degrees.items) (end : nd ≡ lists.new_degrees.items) (ew : w ≡ lists.watched.items) (et : touched ≡ lists.touched.items)
       (ep : parted ≡ lists.parted.items) (eon : on ≡ lists.old_now.items) (enn : nn ≡ lists.new_now.items)
-      (before : HasChanges (count_in f) (lone_at answer f k) (lone_at answer f r) bs)
       (stirred : List Change) (st : AreStirred answer f k stirred)
       (heard : All (λ c. IsHeard f.first f.rows.now.by_tail f.old.now f.new.now f.by_degree od nd w touched parted on nn lists.queue c.node.0) stirred) where
     more : suc k ≡ k + 1
@@ -109,25 +108,21 @@ module _ (answer : Answer) (f : Frame) (r : ℕ) (frame : IsFrame answer f f.lim
     old-stays : f.first ≡ false → (v : ℕ) → v < count_in f → is_changed v (get_or f.history.now.changes k []) ≡ false → value_at (old_lone_at answer f (suc k)) v ≡ value_at (old_lone_at answer f k) v
     old-stays one v low e = ap (λ n. value_at (old_lone_at answer f n) v) more ∙ unchanged-at (count_in f) (old_lone_at answer f k) (old_lone_at answer f (k + 1)) (get_or f.history.now.changes k []) v low (had-old one) e
 
-    new-stays : (v : ℕ) → v < count_in f → is_changed v bs ≡ false → value_at (lone_at answer f (suc k)) v ≡ value_at (lone_at answer f k) v
-    new-stays v low e = ap (λ n. value_at (lone_at answer f n) v) (sym at) ∙ unchanged-at (count_in f) (lone_at answer f k) (lone_at answer f r) bs v low before e
+    new-stays : (v : ℕ) → v < count_in f → changes_at answer f k v ≡ false → value_at (lone_at answer f (suc k)) v ≡ value_at (lone_at answer f k) v
+    new-stays v low e = ap (λ n. value_at (lone_at answer f n) v) more ∙ same-if-still (value_at (lone_at answer f (k + 1)) v) (value_at (lone_at answer f k) v) e
 
     -- a node that changed has the same values in both views where the lists tell so
-    same-values : f.first ≡ false → (v : ℕ) → v < count_in f → (is_changed v (get_or f.history.now.changes k []) ≡ true) ⊎ (is_changed v bs ≡ true) → ValuesAgree touched parted on nn v
+    same-values : f.first ≡ false → (v : ℕ) → v < count_in f → (is_changed v (get_or f.history.now.changes k []) ≡ true) ⊎ (changes_at answer f k v ≡ true) → ValuesAgree touched parted on nn v
         → Same answer f.program.now f.graph.now f.rows.now.by_head f.old.now f.new.now k v
     same-values one v low changed (inl off) =
         let agree = untouched-agree answer f r lists touched (omega (arith, at)) u et one v in
         (agree (suc k) low off (omega (arith, at)), agree k low off (omega (arith, at)))
     same-values one v low changed (inr agree) = (
       sym (ap (λ (vs : List Val). value_at vs v) (enn ∙ u.new_now.values_are ∙ ap (λ n. lone_at answer f n) at)) ∙ sym agree.0 ∙ ap (λ (vs : List Val). value_at vs v) (eon ∙ (u.old_now one).values_are ∙ ap (λ n. old_lone_at answer f n) at),
-      sym (told v low (elim changed [ inl t ↦ inl (sym ((had-old one).listed v low) ∙ t) | inr t ↦ inr (ap (λ n. not (same_value (value_at (lone_at answer f n) v) (value_at (lone_at answer f k) v))) (sym (at ∙ more)) ∙ sym (before.listed v low) ∙ t) ]) (sym (ap (λ (bits : List Bool). get_or bits v false) ep) ∙ agree.1)),
+      sym (told v low (elim changed [ inl t ↦ inl (sym ((had-old one).listed v low) ∙ t) | inr t ↦ inr t ]) (sym (ap (λ (bits : List Bool). get_or bits v false) ep) ∙ agree.1)),
     ) where
       told : TellParted answer f.program.now f.graph.now (arcs_in f.rows.now.by_head f.old.now) (new_arcs f) k lists.parted.items
       told = subst (λ n. TellParted answer f.program.now f.graph.now (arcs_in f.rows.now.by_head f.old.now) (new_arcs f) n lists.parted.items) less (u.parted_are one (omega (arith, at)))
-
-    -- what changes to the round in the new view
-    changes-by : (v : ℕ) → v < count_in f → is_changed v bs ≡ true → changes_at answer f k v ≡ true
-    changes-by v low t = ap (λ n. not (same_value (value_at (lone_at answer f n) v) (value_at (lone_at answer f k) v))) (sym (at ∙ more)) ∙ sym (before.listed v low) ∙ t
 
     -- a quiet node has the same values in both views
     quiet-still : f.first ≡ false → (v : ℕ) → v < count_in f → IsQuiet answer f k v → Still answer f.program.now f.graph.now f.rows.now.by_head f.old.now f.new.now k v
@@ -136,7 +131,7 @@ module _ (answer : Answer) (f : Frame) (r : ℕ) (frame : IsFrame answer f f.lim
         let agree = untouched-agree answer f r lists lists.touched.items (omega (arith, at)) u refl one v in
         ((agree (suc k) low off (omega (arith, at)), agree k low off (omega (arith, at))), quiet.unturned)
 
-    tell-by : f.first ≡ false → (v : ℕ) → v < count_in f → (is_changed v (get_or f.history.now.changes k []) ≡ true) ⊎ (is_changed v bs ≡ true) → (is_changed v stirred ≡ true) ⊎ IsQuiet answer f k v
+    tell-by : f.first ≡ false → (v : ℕ) → v < count_in f → (is_changed v (get_or f.history.now.changes k []) ≡ true) ⊎ (changes_at answer f k v ≡ true) → (is_changed v stirred ≡ true) ⊎ IsQuiet answer f k v
         → ((ValuesAgree touched parted on nn v → Same answer f.program.now f.graph.now f.rows.now.by_head f.old.now f.new.now k v) × IsHeard false f.rows.now.by_tail f.old.now f.new.now f.by_degree od nd w touched parted on nn lists.queue v) ⊎ Still answer f.program.now f.graph.now f.rows.now.by_head f.old.now f.new.now k v
     tell-by one v low changed (inr quiet) = inr (quiet-still one v low quiet)
     tell-by one v low changed (inl listed) = inl (
@@ -148,8 +143,8 @@ module _ (answer : Answer) (f : Frame) (r : ℕ) (frame : IsFrame answer f f.lim
         ⊎ (((ValuesAgree touched parted on nn v → Same answer f.program.now f.graph.now f.rows.now.by_head f.old.now f.new.now k v) × IsHeard false f.rows.now.by_tail f.old.now f.new.now f.by_degree od nd w touched parted on nn lists.queue v) ⊎ Still answer f.program.now f.graph.now f.rows.now.by_head f.old.now f.new.now k v)
     tell one v low = elim (cases_Bool (is_changed v (get_or f.history.now.changes k []))) [
       | inl t ↦ inr (tell-by one v low (inl t) (st.old v low t))
-      | inr e ↦ elim (cases_Bool (is_changed v bs)) [
-        | inl t ↦ inr (tell-by one v low (inr t) (st.new v low (changes-by v low t)))
+      | inr e ↦ elim (cases_Bool (changes_at answer f k v)) [
+        | inl t ↦ inr (tell-by one v low (inr t) (st.new v low t))
         | inr g ↦ inl (new-stays v low g, old-stays one v low e)
       ]
     ]
@@ -164,19 +159,19 @@ module _ (answer : Answer) (f : Frame) (r : ℕ) (frame : IsFrame answer f f.lim
         (tell one) v low idle
 
     -- where there's no view before
-    heard-first : f.first ≡ true → (v : ℕ) → v < count_in f → is_changed v bs ≡ true → IsHeard f.first f.rows.now.by_tail f.old.now f.new.now f.by_degree od nd w touched parted on nn lists.queue v
-    heard-first one v low t = elim (st.new v low (changes-by v low t)) [
+    heard-first : f.first ≡ true → (v : ℕ) → v < count_in f → changes_at answer f k v ≡ true → IsHeard f.first f.rows.now.by_tail f.old.now f.new.now f.by_degree od nd w touched parted on nn lists.queue v
+    heard-first one v low t = elim (st.new v low t) [
       | inl listed ↦ changed-at (λ n. IsHeard f.first f.rows.now.by_tail f.old.now f.new.now f.by_degree od nd w touched parted on nn lists.queue n) v stirred heard listed
       | inr quiet ↦ absurd (clash f.first quiet.second one)
     ]
 
-    itself-waits : f.first ≡ true → (v : ℕ) → v < count_in f → is_changed v bs ≡ true → waits lists.queue v ≡ true
+    itself-waits : f.first ≡ true → (v : ℕ) → v < count_in f → changes_at answer f k v ≡ true → waits lists.queue v ≡ true
     itself-waits one v low t = elim (heard-first one v low t).itself [
       | inl a ↦ absurd (clash f.first a.0 one)
       | inr h ↦ h
     ]
 
-    readers-wait : f.first ≡ true → (v : ℕ) → v < count_in f → is_changed v bs ≡ true → AllHear f.rows.now.by_head lists.queue v
+    readers-wait : f.first ≡ true → (v : ℕ) → v < count_in f → changes_at answer f k v ≡ true → AllHear f.rows.now.by_head lists.queue v
     readers-wait one v low t = elim (heard-first one v low t).readers [
       | inl a ↦ absurd (clash f.first a.0 one)
       | inr h ↦ All-permutation (λ (a : Arc). a.tail.0 ≡ v → waits lists.queue a.head.0 ≡ true) f.rows.now.by_tail f.rows.now.by_head (IsPermutation-sym f.rows.now.by_head f.rows.now.by_tail frame.rows.same) h
@@ -184,11 +179,11 @@ module _ (answer : Answer) (f : Frame) (r : ℕ) (frame : IsFrame answer f f.lim
 
     active-first : f.first ≡ true → (v : ℕ) → v < count_in f → waits lists.queue v ≡ false → node_active answer f.program.now f.graph.now (new_arcs f) None v (suc k) ≡ false
     active-first one v low idle = calm-first answer f.program.now f.graph.now f.rows.now.by_head f.new.now k v
-        (elim (cases_Bool (is_changed v bs)) [
+        (elim (cases_Bool (changes_at answer f k v)) [
           | inl t ↦ absurd (clash (waits lists.queue v) idle (itself-waits one v low t))
           | inr e ↦ new-stays v low e
         ])
-        (λ i d within here. elim (cases_Bool (is_changed (get_or f.rows.now.by_head i d).tail.0 bs)) [
+        (λ i d within here. elim (cases_Bool (changes_at answer f k (get_or f.rows.now.by_head i d).tail.0)) [
           | inl t ↦ absurd (clash (waits lists.queue v) idle (subst (λ n. waits lists.queue n ≡ true) here (readers-wait one (get_or f.rows.now.by_head i d).tail.0 (frame.rows.arcs i d within).tail t i d within refl)))
           | inr e ↦ new-stays (get_or f.rows.now.by_head i d).tail.0 (frame.rows.arcs i d within).tail e
         ])

@@ -46,12 +46,16 @@ listed-at P u (n ∷ ns) all e = elim (cases_Bool (n.0 == u)) [
   second true b f t = absurd cc
   second false b f t = t
 
--- a node that isn't in the list of changes keeps its value
-pub unchanged-at : (count : ℕ) (before after : List Val) (cs : List Change) (u : ℕ) → u < count → HasChanges count before after cs → is_changed u cs ≡ false → value_at after u ≡ value_at before u
-unchanged-at count before after cs u low h e = values-exact.one (value_at after u) (value_at before u) (not-told (same_value (value_at after u) (value_at before u)) (sym (h.listed u low) ∙ e)) where
+-- two values that aren't told to differ are one
+pub same-if-still : (x y : Val) → not (same_value x y) ≡ false → x ≡ y
+same-if-still x y e = values-exact.one x y (not-told (same_value x y) e) where
   not-told : (b : Bool) → not b ≡ false → b ≡ true
   not-told true f = refl
   not-told false f = absurd cc
+
+-- a node that isn't in the list of changes keeps its value
+pub unchanged-at : (count : ℕ) (before after : List Val) (cs : List Change) (u : ℕ) → u < count → HasChanges count before after cs → is_changed u cs ≡ false → value_at after u ≡ value_at before u
+unchanged-at count before after cs u low h e = same-if-still (value_at after u) (value_at before u) (sym (h.listed u low) ∙ e)
 
 pub heard-still : (first : Bool) (arcs : List Arc) (old new : List Bool) (by : Bool) (od nd : List ℕ) (w t pt : List Bool) (on nn : List Val) (q q' : Queue) (u : ℕ) → StillWait q q'
     → IsHeard first arcs old new by od nd w t pt on nn q u → IsHeard first arcs old new by od nd w t pt on nn q' u

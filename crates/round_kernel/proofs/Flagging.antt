@@ -126,8 +126,8 @@ set-both IsRight none one two before mid after first second = record {
 
 -- ---- one round on
 
-module _ (answer : Answer) (f : Frame) (r : ℕ) (lists : Lists) (frame : IsFrame answer f f.limit) (under : r < f.limit) (at : StandAt answer f (r + 1) (was_touched_at answer f (r + 1)) lists) (new stirred : List Change)
-    (news : HasChanges (count_in f) (lone_at answer f r) (lone_at answer f (r + 1)) new) (st : AreStirred answer f r stirred) where
+module _ (answer : Answer) (f : Frame) (r : ℕ) (lists : Lists) (frame : IsFrame answer f f.limit) (under : r < f.limit) (at : StandAt answer f (r + 1) (was_touched_at answer f (r + 1)) lists) (new : List Change)
+    (news : HasChanges (count_in f) (lone_at answer f r) (lone_at answer f (r + 1)) new) where
   -- what changes in the view before
   abbrev old : List Change
   old = get_or f.history.now.changes r []
@@ -162,17 +162,16 @@ module _ (answer : Answer) (f : Frame) (r : ℕ) (lists : Lists) (frame : IsFram
       ap (λ (v : Val). sent_by p graph u v (outdeg (new_arcs f) u) e) (untouched-agree answer f (r + 1) lists lists.touched.items (omega arith) at refl first u (r + 1) low off (omega arith))
       ∙ ap (λ (d : ℕ). sent_by p graph u (value_at (old_lone_at answer f (r + 1)) u) d e) (same-degree f.old.now f.new.now u f.rows.now.by_head quiet.unturned)
 
-  -- what changes and isn't listed is quiet
-  unlisted : (u : ℕ) → is_changed u stirred ≡ false → (is_changed u stirred ≡ true) ⊎ IsQuiet answer f r u → IsQuiet answer f r u
-  unlisted u off (inl on) = absurd (clash (is_changed u stirred) off on)
-  unlisted u off (inr quiet) = quiet
+  -- where what changes is listed, but for quiet nodes: what isn't listed is quiet or stays
+  module _ (stirred : List Change) (st : AreStirred answer f r stirred) where
+    unlisted : (u : ℕ) → is_changed u stirred ≡ false → (is_changed u stirred ≡ true) ⊎ IsQuiet answer f r u → IsQuiet answer f r u
+    unlisted u off (inl on) = absurd (clash (is_changed u stirred) off on)
+    unlisted u off (inr quiet) = quiet
 
-  module _ (was mid next : Told) (told : StandsTold answer f r was)
-      (stays : mid.apart ≡ was.apart) (moved : AreSet (λ u to. to ≡ r + 1) 0 new was.moved.items mid.moved.items)
-      (parted : AreSet (IsSettled f lists) false stirred mid.apart.items next.apart.items) (kept : next.moved ≡ mid.moved) (turned : next.turned ≡ was.turned) where
-    apart-next : f.first ≡ false → (u e : ℕ) → u < count_in f → get_or next.apart.items u false ≡ false
+    pub apart-listed : (was mid next : Told) → StandsTold answer f r was → mid.apart ≡ was.apart → AreSet (IsSettled f lists) false stirred mid.apart.items next.apart.items
+        → f.first ≡ false → (u e : ℕ) → u < count_in f → get_or next.apart.items u false ≡ false
         → sent_in answer f.program.now f.graph.now (new_arcs f) (r + 1) u e ≡ sent_in answer f.program.now f.graph.now (arcs_in f.rows.now.by_head f.old.now) (r + 1) u e
-    apart-next first u e low unset = elim (cases_Bool (is_changed u stirred)) [
+    apart-listed was mid next told stays parted first u e low unset = elim (cases_Bool (is_changed u stirred)) [
       | inl listed ↦ settled-tells u (get_or next.apart.items u false) low first (parted.right u listed) unset e
       | inr off ↦
           let before : get_or was.apart.items u false ≡ false = ap (λ v. get_or v.items u false) (sym stays) ∙ sym (parted.others u off) ∙ unset in
@@ -186,6 +185,17 @@ module _ (answer : Answer) (f : Frame) (r : ℕ) (lists : Lists) (frame : IsFram
           ]
     ]
 
+  -- where each node was looked at
+  pub apart-all : (flags : List Bool) → ((u : ℕ) → u < count_in f → IsFlagged f lists u (get_or flags u false)) → f.first ≡ false → (u e : ℕ) → u < count_in f → get_or flags u false ≡ false
+      → sent_in answer f.program.now f.graph.now (new_arcs f) (r + 1) u e ≡ sent_in answer f.program.now f.graph.now (arcs_in f.rows.now.by_head f.old.now) (r + 1) u e
+  apart-all flags right first u e low unset = flag-tells answer f (r + 1) (was_touched_at answer f (r + 1)) lists at u (get_or flags u false) low first (right u low) unset e
+
+  module _ (was mid next : Told) (told : StandsTold answer f r was)
+      (stays : mid.apart ≡ was.apart) (moved : AreSet (λ u to. to ≡ r + 1) 0 new was.moved.items mid.moved.items)
+      (size : length next.apart.items ≡ length mid.apart.items)
+      (apart : f.first ≡ false → (u e : ℕ) → u < count_in f → get_or next.apart.items u false ≡ false
+          → sent_in answer f.program.now f.graph.now (new_arcs f) (r + 1) u e ≡ sent_in answer f.program.now f.graph.now (arcs_in f.rows.now.by_head f.old.now) (r + 1) u e)
+      (kept : next.moved ≡ mid.moved) (turned : next.turned ≡ was.turned) where
     same-moved : (u : ℕ) → get_or next.moved.items u 0 ≡ get_or mid.moved.items u 0
     same-moved u = ap (λ v. get_or v.items u 0) kept
 
@@ -206,9 +216,9 @@ module _ (answer : Answer) (f : Frame) (r : ℕ) (lists : Lists) (frame : IsFram
 
     pub told-next : StandsTold answer f (r + 1) next
     told-next = record {
-      apart_size = parted.size ∙ ap (λ v. length v.items) stays ∙ told.apart_size;
+      apart_size = size ∙ ap (λ v. length v.items) stays ∙ told.apart_size;
       moved_size = ap (λ v. length v.items) kept ∙ moved.size ∙ told.moved_size;
-      apart = apart-next;
+      apart = apart;
       moved_past = past-next;
       moved = λ later u low stays. moved-next u low stays;
       turned = subst (λ t. TellTurned (λ a. a.head.0) f.graph.now f.rows.now.by_head f.first f.old.now f.new.now t) (sym turned) told.turned;

@@ -37,5 +37,6 @@ pub mod Picked
 pub mod Renewing
 pub mod Proper
 pub mod Turning
+pub mod Untouched
 pub mod Listed
 pub mod Sorting

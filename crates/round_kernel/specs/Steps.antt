@@ -12,7 +12,7 @@ use Rattle.vertex_lang.specs.declared.lone.Outcome.TheVariants as outcomes
 use Rattle.vertex_lang.specs.Arcs.{arcs_between}
 use Rattle.vertex_lang.specs.Directions.{RunsAlong}
 use Rattle.vertex_lang.specs.Expressions.{Answer}
-use Rattle.vertex_lang.specs.Rounds.{lone}
+use Rattle.vertex_lang.specs.Rounds.{lone, value_at}
 use Rattle.lone_work.specs.Work.{work}
 use Rattle.round_kernel.specs.declared.history.History.{History}
 use Rattle.round_kernel.specs.declared.rows.Rows.{Rows}
@@ -50,6 +50,9 @@ pub record IsRun (answer : Answer) (f : Frame) (run : Run) : Type 0 where
   pub work_is : run.work ≡ work answer f.program.now f.graph.now (new_arcs f) (old_arcs f) f.limit
   pub new_values : run.lists.new_now.items ≡ lone_at answer f f.limit
   pub old_values : f.first ≡ false → run.lists.old_now.items ≡ lone answer f.program.now f.graph.now (arcs_in f.rows.now.by_head f.old.now) f.limit
+  pub touched_size : length run.lists.touched.items ≡ count_in f
+  -- a node that was never touched has the same value in both views
+  pub untouched : f.first ≡ false → (v : ℕ) → v < count_in f → get_or run.lists.touched.items v false ≡ false → value_at run.lists.old_now.items v ≡ value_at run.lists.new_now.items v
 
 -- the outcome, given the number of the last round that changed something
 abbrev pub outcome_of : ℕ → Rounds → Outcome

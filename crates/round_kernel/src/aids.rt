@@ -1,6 +1,6 @@
 //! What makes the visits of a round fast.
 
-ghost use Rattle.std.specs.Prelude.{◌≡◌, ◌<◌, ◌+◌, ◌++◌, false, All, IfOk, OnOk};
+ghost use Rattle.std.specs.Prelude.{◌≡◌, ◌<◌, ◌+◌, false, All, IfOk, OnOk, IsTrue};
 ghost use Rattle.round_kernel.specs.Aiding.{StandsAided};
 ghost use Rattle.round_kernel.specs.Frames.{AreStirred, IsFrame, StandAt, count_in, lone_at, old_lone_at, was_touched_at};
 ghost use Rattle.round_kernel.specs.Histories.{HasChanges};
@@ -9,7 +9,7 @@ ghost use Rattle.round_kernel.specs.Listings.{IsListed};
 use crate::feed::Feed;
 use crate::history::Change;
 use crate::past::Listed;
-use crate::round::{Frame, Lists, Stirred};
+use crate::round::{Frame, Lists};
 use crate::told::Told;
 use std::alloc::Global;
 use std::mem;
@@ -78,26 +78,28 @@ impl Aids {
         Ok(())
     }
 
-    /// One round on, given what changes to it in the new view, what may have to be told of what changes in either, and the
-    /// lists as they stand in it.
+    /// One round on, given what changes to it in the new view, where few touched nodes change what may have to be told of what changes
+    /// in either, and the lists as they stand in it.
     pub(crate) fn go_on<U: Updater>(
         &mut self,
         frame: Frame<'_>,
         round: u32,
         lists: &Lists,
         new: &[Change],
-        stirred: Stirred<'_>,
+        few: bool,
+        stirred: &[Change],
         updater: &U,
     )
         requires frame { IsFrame U.answer frame frame.limit }
         requires round { round < frame.limit }
         requires at { StandAt U.answer frame (round + 1) (was_touched_at U.answer frame (round + 1)) lists.now }
         requires new { HasChanges (count_in frame) (lone_at U.answer frame round) (lone_at U.answer frame (round + 1)) new.now }
-        requires stirred { AreStirred U.answer frame round (stirred.one.now ++ stirred.two.now) }
+        requires stirred { IsTrue few → AreStirred U.answer frame round stirred.now }
         requires aided { StandsAided U.answer frame round self.old }
         ensures aided { StandsAided U.answer frame.entry (round + 1) self.new }
     {
         self.feed.go_on(frame, round, lists, new, updater);
-        self.told.go_on(frame, round, lists, new, stirred, updater);
+        self.told
+            .go_on(frame, round, lists, new, few, stirred, updater);
     }
 }

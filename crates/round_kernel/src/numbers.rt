@@ -8,6 +8,7 @@ ghost use Rattle.vertex_lang.specs.Values.{added};
 ghost use Rattle.round_kernel.specs.Codes.{value_in, code_of};
 ghost use Rattle.round_kernel.specs.Numbers.{AreNumbers, AreRenewed, AreProper, IsStep, brought_by, brought_with, sent_from, sent_in_view, sent_with};
 ghost use Rattle.round_kernel.specs.Links.{sent_over};
+ghost use Rattle.round_kernel.specs.Spans.{IsSpan};
 ghost use Rattle.round_kernel.specs.Tallies.{tally_of};
 
 use crate::history::Change;
@@ -126,17 +127,30 @@ fn number_with_step(graph: &Graph, column: u32, numbers: &[i64], edges: &[bool],
     }
 }
 
-/// What comes of arcs that bring the numbers of their tails.
+/// What comes of arcs that bring the numbers of their tails. Where they are added up, the compiler leaves out the least and the
+/// greatest, for which nobody asks then.
 pub(crate) fn tally_tails(kind: Gather, numbers: &[i64], tails: &[NodeNo]) -> Tally
     requires few { length tails.now < 2 ^ 32 }
     requires tails { All (λ t. t.0 < length numbers.now) tails.now }
     ensures { result ≡ tally_of kind (sent_from numbers.now tails.now) }
 {
+    match kind {
+        Gather::Sum => span_of_tails(numbers, tails).tally(Gather::Sum),
+        _ => span_of_tails(numbers, tails).tally(kind),
+    }
+}
+
+// The same, whichever way it is gathered.
+fn span_of_tails(numbers: &[i64], tails: &[NodeNo]) -> Span
+    requires few { length tails.now < 2 ^ 32 }
+    requires tails { All (λ t. t.0 < length numbers.now) tails.now }
+    ensures { IsSpan result (sent_from numbers.now tails.now) }
+{
     let mut span = Span::new();
     for tail in tails {
         span = span.with(numbers[tail.0 as usize]);
     }
-    span.tally(kind)
+    span
 }
 
 /// What comes of arcs that bring the number of their tail and their own number added.

@@ -20,7 +20,7 @@ use crate::chained::ChainedLists;
 use crate::degrees::Degrees;
 use crate::history::{Change, History};
 use crate::past::{Listed, Past};
-use crate::round::{Frame, Lists, go_on, run_round, stirred_after};
+use crate::round::{Frame, Lists, go_on, run_round};
 use crate::rows::Rows;
 use crate::sorted::in_node_order;
 use crate::tally::Kept;
@@ -159,7 +159,12 @@ pub fn next_step<U: Updater>(
     };
     let counted = degrees.kept(alloc, by_degree)?;
     let run = run_rounds(alloc, frame, degrees, listed, updater)?;
-    let change = changes_between(alloc, &run.lists.old_now, &run.lists.new_now)?;
+    let change = changes_between(
+        alloc,
+        &run.lists.touched,
+        &run.lists.old_now,
+        &run.lists.new_now,
+    )?;
     rows.past = Past::of(alloc, new, run.listed, counted);
     Ok(Stepped {
         outcome: outcome(&run.history, rounds),
@@ -267,22 +272,13 @@ fn run_one<U: Updater>(
     ensures calls { IfOk result (λ n. U.calls updater.new ≡ U.calls updater.old + n) }
 {
     let before = history.changes_before(round);
-    let work = run_round(
-        alloc, frame, before, round, lists, kept, aids, made, updater,
-    )?;
-    let stirred = stirred_after(
-        frame,
-        made.few,
-        made.stirred.as_slice(),
-        made.changes.as_slice(),
-        round,
-        updater,
-    );
+    let work = run_round(alloc, frame, round, lists, kept, aids, made, updater)?;
     go_on(
         frame,
         before,
         made.changes.as_slice(),
-        stirred,
+        made.few,
+        made.stirred.as_slice(),
         round,
         lists,
         updater,
@@ -292,7 +288,8 @@ fn run_one<U: Updater>(
         round,
         lists,
         made.changes.as_slice(),
-        stirred,
+        made.few,
+        made.stirred.as_slice(),
         updater,
     );
     in_node_order(frame, round, lists, &aids.told, &mut made.changes, updater)?;

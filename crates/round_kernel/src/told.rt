@@ -1,6 +1,6 @@
 //! Which nodes may send something else in two rounds: in those of two views, or in a round and the one before it.
 
-ghost use Rattle.std.specs.Prelude.{◌≡◌, ◌<◌, ◌+◌, ◌++◌, ◌==◌, ◌≢◌, ℕ, true, false, filter, length, get_or, All, IfOk, IsTrue};
+ghost use Rattle.std.specs.Prelude.{◌≡◌, ◌<◌, ◌+◌, ◌==◌, ◌≢◌, ℕ, true, false, filter, length, get_or, All, IfOk, IsTrue};
 ghost use Rattle.vertex_lang.specs.Ignoring.{IgnoresOutdeg};
 ghost use Rattle.round_kernel.specs.Frames.{AreStirred, IsFrame, StandAt, count_in, lone_at, old_lone_at, was_touched_at};
 ghost use Rattle.round_kernel.specs.Histories.{HasChanges};
@@ -10,7 +10,7 @@ ghost use Rattle.round_kernel.specs.RowLists.{IsGrouped};
 
 use crate::history::Change;
 use crate::message::is_other;
-use crate::round::{Frame, Lists, Stirred};
+use crate::round::{Frame, Lists};
 use crate::turned::Turned;
 use graph_model::NodeNo;
 use std::alloc::Global;
@@ -60,28 +60,35 @@ impl Told {
         self.turned.coming_to(node)
     }
 
-    /// One round on, given what changes to it in the new view, what may have to be told of what changes in either, and the
-    /// lists as they stand in it.
+    /// One round on, given what changes to it in the new view, where few touched nodes change what may have to be told of what changes
+    /// in either, and the lists as they stand in it. Where there is no view before, nobody asks which nodes differ.
     pub(crate) fn go_on<U: Updater>(
         &mut self,
         frame: Frame<'_>,
         round: u32,
         lists: &Lists,
         new: &[Change],
-        stirred: Stirred<'_>,
+        few: bool,
+        stirred: &[Change],
         _updater: &U,
     )
         requires frame { IsFrame U.answer frame frame.limit }
         requires round { round < frame.limit }
         requires at { StandAt U.answer frame (round + 1) (was_touched_at U.answer frame (round + 1)) lists.now }
         requires new { HasChanges (count_in frame) (lone_at U.answer frame round) (lone_at U.answer frame (round + 1)) new.now }
-        requires stirred { AreStirred U.answer frame round (stirred.one.now ++ stirred.two.now) }
+        requires stirred { IsTrue few → AreStirred U.answer frame round stirred.now }
         requires told { StandsTold U.answer frame round self.old }
         ensures { StandsTold U.answer frame.entry (round + 1) self.new }
     {
         self.move_all(round + 1, new);
-        self.part_all(frame, lists, stirred.one);
-        self.part_all(frame, lists, stirred.two);
+        if frame.first {
+            return;
+        }
+        if few {
+            self.part_all(frame, lists, stirred);
+        } else {
+            self.part_everyone(frame, lists);
+        }
     }
 
     // Nodes change in the new view to a round: that they did so.
@@ -112,6 +119,21 @@ impl Told {
         }
     }
 
+    // Whether any node may send something else in both views.
+    fn part_everyone(&mut self, frame: Frame<'_>, lists: &Lists)
+        requires long { AreLong (count_in frame) lists.now }
+        requires degree { frame.by_degree ≡ false → IgnoresOutdeg frame.program.now.send }
+        requires apart { length self.old.apart.items ≡ count_in frame }
+        ensures apart { (u : ℕ) → u < count_in frame.entry → IsFlagged frame.entry lists.now u (get_or self.new.apart.items u false) }
+        ensures size { length self.new.apart.items ≡ length self.old.apart.items }
+        ensures moved { self.new.moved ≡ self.old.moved }
+        ensures turned { self.new.turned ≡ self.old.turned }
+    {
+        for node in 0..frame.graph.node_count() {
+            self.flag_anew(frame, lists, NodeNo(node));
+        }
+    }
+
     // Whether a node that changes may send something else in both views. One that was never touched has the same value in
     // both, so it sends the same unless the message depends on how many arcs leave it.
     fn flag(&mut self, frame: Frame<'_>, lists: &Lists, node: NodeNo)
@@ -125,10 +147,24 @@ impl Told {
         ensures moved { self.new.moved ≡ self.old.moved }
         ensures turned { self.new.turned ≡ self.old.turned }
     {
-        let place = node.0 as usize;
-        if frame.by_degree || lists.touched[place] {
-            self.apart[place] = is_apart(frame, lists, node);
+        if frame.by_degree || lists.touched[node.0 as usize] {
+            self.flag_anew(frame, lists, node);
         }
+    }
+
+    // Whether a node may send something else in both views.
+    fn flag_anew(&mut self, frame: Frame<'_>, lists: &Lists, node: NodeNo)
+        requires node { node.0 < count_in frame }
+        requires long { AreLong (count_in frame) lists.now }
+        requires degree { frame.by_degree ≡ false → IgnoresOutdeg frame.program.now.send }
+        requires apart { length self.old.apart.items ≡ count_in frame }
+        ensures size { length self.new.apart.items ≡ length self.old.apart.items }
+        ensures right { IsFlagged frame.entry lists.now node.0 (get_or self.new.apart.items node.0 false) }
+        ensures others { (u : ℕ) → u ≢ node.0 → get_or self.new.apart.items u false ≡ get_or self.old.apart.items u false }
+        ensures moved { self.new.moved ≡ self.old.moved }
+        ensures turned { self.new.turned ≡ self.old.turned }
+    {
+        self.apart[node.0 as usize] = is_apart(frame, lists, node);
     }
 }
 

@@ -1,11 +1,12 @@
 //! The values of both views, round by round.
 
-ghost use Rattle.std.specs.Prelude.{◌≡◌, ◌<◌, ◌^◌, true, false, ℕ, List, length, map, get_or, slice_set, All, IfOk, IsTrue};
+ghost use Rattle.std.specs.Prelude.{◌≡◌, ◌<◌, ◌^◌, not, true, false, ℕ, List, length, map, get_or, slice_set, All, IfOk, IsTrue};
 ghost use Rattle.graph_model.specs.declared.value.Val.{Val};
 ghost use Rattle.vertex_lang.specs.Leaves.{IsChecked};
 ghost use Rattle.vertex_lang.specs.Expressions.{start_of};
 ghost use Rattle.vertex_lang.specs.Arcs.{outdeg};
-ghost use Rattle.vertex_lang.specs.Rounds.{nodes_of};
+ghost use Rattle.vertex_lang.specs.Rounds.{nodes_of, value_at};
+ghost use Rattle.vertex_lang.specs.Lone.{same_value};
 ghost use Rattle.round_kernel.specs.Sides.{arcs_in, AreSent, MayKeep};
 ghost use Rattle.round_kernel.specs.Forms.{HasForm};
 ghost use Rattle.round_kernel.specs.Numbers.{IsPut};
@@ -102,8 +103,22 @@ pub(crate) fn degrees_if(
     Ok(none)
 }
 
-/// Gives each node that changed its value in the round before the value that it has.
+/// Gives each node that changed its value in the round before the value that it has. Where many did, copying all values is less
+/// work.
 pub(crate) fn catch_up(before: &mut [Val], now: &[Val], changes: &[Change])
+    requires size { length before.old ≡ length now.now }
+    requires within { All (λ c. c.node.0 < length now.now) changes.now }
+    ensures all { HasChanges (length now.now) before.old now.now changes.now → before.new ≡ now.now }
+{
+    if changes.len() > now.len() / 4 {
+        before.copy_from_slice(now);
+        return;
+    }
+    catch_up_each(before, now, changes);
+}
+
+// The same, node by node.
+fn catch_up_each(before: &mut [Val], now: &[Val], changes: &[Change])
     requires size { length before.old ≡ length now.now }
     requires within { All (λ c. c.node.0 < length now.now) changes.now }
     ensures all { HasChanges (length now.now) before.old now.now changes.now → before.new ≡ now.now }
@@ -135,6 +150,14 @@ pub(crate) fn part(
             parted[place] = is_other(old_now[place], new_now[place]);
         }
     }
+}
+
+/// Tells of all nodes that their values in the two views may differ.
+pub(crate) fn part_everyone(parted: &mut [bool])
+    ensures size { length parted.new ≡ length parted.old }
+    ensures all { (v : ℕ) → v < length parted.old → get_or parted.new v false ≡ true }
+{
+    parted.fill(true);
 }
 
 /// Gives each node that changes its new value.
@@ -283,19 +306,22 @@ pub(crate) fn send_all(
     Ok((true, sent))
 }
 
-/// What leads from the one list of values to the other.
+/// What leads from the one list of values to the other, where they differ at touched nodes alone.
 pub(crate) fn changes_between(
     alloc: Global,
+    touched: &[bool],
     old: &[Val],
     new: &[Val],
 ) -> Result<List<Change>, NoMemory>
+    requires touched { length touched.now ≡ length new.now }
     requires size { length old.now ≡ length new.now }
+    requires others { (v : ℕ) → v < length new.now → get_or touched.now v false ≡ false → value_at old.now v ≡ value_at new.now v }
     requires few { length new.now < 2 ^ 32 }
     ensures { IfOk result (λ changes. changes ≡ changes_from 0 old.now new.now) }
 {
     let mut changes = List::new(alloc);
     for node in 0..new.len() {
-        if is_other(old[node], new[node]) {
+        if are_unlike(touched[node], old[node], new[node]) {
             changes.push(Change {
                 node: NodeNo(node as u32),
                 value: new[node],
@@ -303,6 +329,14 @@ pub(crate) fn changes_between(
         }
     }
     Ok(changes)
+}
+
+// Whether the two values of a node differ, which they do at touched nodes alone.
+fn are_unlike(touched: bool, old: Val, new: Val) -> bool
+    requires { touched ≡ false → old ≡ new }
+    ensures { result ≡ not (same_value old new) }
+{
+    touched && is_other(old, new)
 }
 
 /// The value of each node.

@@ -52,7 +52,7 @@ pub(crate) struct Made {
     pub(crate) marks: List<NodeNo>,
     pub(crate) changes: List<Change>,
     /// Whether few touched nodes change to the next round. Then all that changes to it in either view follows, but at nodes that were
-    /// never touched and from which no turned arc leaves: of these nobody has to be told.
+    /// never touched and from which no turned arc leaves: of these nobody has to be told. Else all nodes are visited in it.
     pub(crate) few: bool,
     pub(crate) stirred: List<Change>,
 }

@@ -8,8 +8,8 @@ use Rattle.round_kernel.proofs.Marking.{changes-now}
 use Rattle.round_kernel.proofs.Rounding.{changes-all, listed-when, marks-all, stirred-all}
 use Rattle.round_kernel.proofs.round.run_round.Goals as goal
 
-pub stirred_before-stirred-requires-clause-stirred : goal.stirred_before-stirred-requires-clause-stirred
-stirred_before-stirred-requires-clause-stirred g c = λ later few.
+pub fill_queue-requires-clause-stirred : goal.fill_queue-requires-clause-stirred
+fill_queue-requires-clause-stirred g c = λ later few.
     subst (λ (cs : List Change). AreStirred g.U.Updater.answer c.args.frame (c.args.round - 1) cs) (sym (c.as_slice.ensures ∙ c.clear.ensures.stirred)) (c.requires.stirred later (subst (λ (b : Bool). b ≡ true) c.clear.ensures.few few))
 
 pub copy_old_marks-requires-clause-within : goal.copy_old_marks-requires-clause-within

@@ -1,9 +1,10 @@
-use Rattle.std.proofs.Common.{◌∙◌, ℕ, Some, List, length, sym, ap, subst, refl, arith}
+use Rattle.std.proofs.Common.{◌≡◌, ◌∙◌, ℕ, Bool, Some, List, length, get_or, false, sym, ap, subst, refl, arith}
 use Rattle.std.specs.Prelude.{All}
 use Rattle.graph_model.specs.declared.value.Val.{Val}
 use Rattle.vertex_lang.specs.declared.arc.Arc.{Arc}
 use Rattle.vertex_lang.specs.Arcs.{IsArc}
 use Rattle.vertex_lang.specs.RoundLaws.{length-lone}
+use Rattle.vertex_lang.specs.Rounds.{value_at}
 use Rattle.round_kernel.specs.Histories.{IsHistory}
 use Rattle.round_kernel.specs.declared.past.Past.{Past}
 use Rattle.round_kernel.specs.Listings.{IsPast}
@@ -47,18 +48,32 @@ run_rounds-requires-clause-frame g c =
       turned = λ one. turned-told c.args.program.now.along graph c.args.rows.now old c.args.new.now c.args.turned.now c.as_slice-3.result.now c.requires.rows.arcs c.requires.old c.requires.along c.requires.all_turned (c.as_slice-3.ensures ∙ c.in_ok-arcs.ensures.arcs);
     }
 
+pub changes_between-requires-clause-touched : goal.changes_between-requires-clause-touched
+changes_between-requires-clause-touched g c =
+    let all = c.args.rows.now.by_head in
+    ap (λ (bs : List Bool). length bs) c.deref.ensures.value ∙ c.in_ok-run.ensures.run.touched_size
+    ∙ sym (ap (λ (vs : List Val). length vs) (c.deref-3.ensures.value ∙ c.in_ok-run.ensures.run.new_values) ∙ length-lone g.U.Updater.answer c.args.program.now c.args.graph.now (arcs_in all c.args.new.now) c.limit_of.result)
+
 pub changes_between-requires-clause-size : goal.changes_between-requires-clause-size
 changes_between-requires-clause-size g c =
     let all = c.args.rows.now.by_head in
-    ap (λ (vs : List Val). length vs) (c.deref.ensures.value ∙ c.in_ok-run.ensures.run.old_values refl)
+    ap (λ (vs : List Val). length vs) (c.deref-2.ensures.value ∙ c.in_ok-run.ensures.run.old_values refl)
     ∙ length-lone g.U.Updater.answer c.args.program.now c.args.graph.now (arcs_in all c.args.old.now) c.limit_of.result
-    ∙ sym (ap (λ (vs : List Val). length vs) (c.deref-2.ensures.value ∙ c.in_ok-run.ensures.run.new_values) ∙ length-lone g.U.Updater.answer c.args.program.now c.args.graph.now (arcs_in all c.args.new.now) c.limit_of.result)
+    ∙ sym (ap (λ (vs : List Val). length vs) (c.deref-3.ensures.value ∙ c.in_ok-run.ensures.run.new_values) ∙ length-lone g.U.Updater.answer c.args.program.now c.args.graph.now (arcs_in all c.args.new.now) c.limit_of.result)
+
+pub changes_between-requires-clause-others : goal.changes_between-requires-clause-others
+changes_between-requires-clause-others g c = λ v low off.
+    let count : length c.deref-3.result.now ≡ length c.args.graph.now.ids =
+    ap (λ (vs : List Val). length vs) (c.deref-3.ensures.value ∙ c.in_ok-run.ensures.run.new_values) ∙ length-lone g.U.Updater.answer c.args.program.now c.args.graph.now (arcs_in c.args.rows.now.by_head c.args.new.now) c.limit_of.result in
+    ap (λ (vs : List Val). value_at vs v) c.deref-2.ensures.value
+    ∙ c.in_ok-run.ensures.run.untouched refl v (omega (arith, low, count)) (ap (λ (bs : List Bool). get_or bs v false) (sym c.deref.ensures.value) ∙ off)
+    ∙ ap (λ (vs : List Val). value_at vs v) (sym c.deref-3.ensures.value)
 
 pub changes_between-requires-clause-few : goal.changes_between-requires-clause-few
 changes_between-requires-clause-few g c =
     omega (
       arith,
-      ap (λ (vs : List Val). length vs) (c.deref-2.ensures.value ∙ c.in_ok-run.ensures.run.new_values),
+      ap (λ (vs : List Val). length vs) (c.deref-3.ensures.value ∙ c.in_ok-run.ensures.run.new_values),
       length-lone g.U.Updater.answer c.args.program.now c.args.graph.now (arcs_in c.args.rows.now.by_head c.args.new.now) c.limit_of.result,
       c.nodes_are_few.ensures,
     )

@@ -8,9 +8,6 @@ use Rattle.round_kernel.proofs.Growing.{rounds-more, changes-last}
 use Rattle.round_kernel.proofs.KeptRounds.{kept-on}
 use Rattle.round_kernel.proofs.step.run_one.Goals as goal
 
-pub run_round-requires-clause-before : goal.run_round-requires-clause-before
-run_round-requires-clause-before g c = λ later. changes-last g.U.Updater.answer c.args.frame c.args.history.now c.args.round c.requires.history later c.changes_before-before.result.now (c.changes_before-before.ensures later)
-
 pub go_on-requires-clause-before : goal.go_on-requires-clause-before
 go_on-requires-clause-before g c = λ later. changes-last g.U.Updater.answer c.args.frame c.args.history.now c.args.round c.requires.history later c.changes_before-before.result.now (c.changes_before-before.ensures later)
 

@@ -8,6 +8,7 @@ use Rattle.round_kernel.specs.Frames.{AreStirred, new_arcs, old_arcs}
 use Rattle.round_kernel.proofs.Growing.{rounds-none}
 use Rattle.round_kernel.proofs.Ending.{IsEnd, end-quiet, end-all, run-history, run-work, run-new, run-old}
 use Rattle.round_kernel.proofs.KeptRounds.{kept-next}
+use Rattle.round_kernel.proofs.Untouched.{untouched-same}
 use Rattle.round_kernel.proofs.step.run_rounds.Goals as goal
 use Rattle.round_kernel.proofs.step.run_rounds.Goals.{then-loop-round-test+else-not-is_quiet, else-loop-round-test}
 
@@ -64,4 +65,6 @@ returns-clause-run g c =
       work_is = u.work ∙ run-work answer f c.requires.frame r h u.rounds u.within end;
       new_values = u.at.new_now.values_are ∙ run-new answer f c.requires.frame r h u.rounds u.within end;
       old_values = λ one. (u.at.old_now one).values_are ∙ run-old answer f c.requires.frame r h u.rounds u.within end one;
+      touched_size = u.at.touched_size;
+      untouched = λ one v low off. untouched-same answer f r c.loop-round.lists u.at one v low off;
     }

@@ -2,7 +2,7 @@ use Rattle.std.proofs.Common.{take}
 use Rattle.round_kernel.specs.Numbers.{sent_from}
 use Rattle.round_kernel.specs.Spans.{IsSpan, sums_of}
 use Rattle.round_kernel.specs.Tallies.{IsBounded}
-use Rattle.round_kernel.proofs.numbers.tally_tails.Given as goal
+use Rattle.round_kernel.proofs.numbers.span_of_tails.Given as goal
 
 abbrev pub invariant-loop-tail : goal.invariant-loop-tail
 invariant-loop-tail l = record {

@@ -4,7 +4,7 @@ use Rattle.vertex_lang.specs.Rounds.{value_at}
 use Rattle.round_kernel.specs.declared.history.Change.{Change}
 use Rattle.round_kernel.specs.Histories.{AreChanged}
 use Rattle.round_kernel.proofs.Changing.{none-changed, one-changed, all-changed}
-use Rattle.round_kernel.proofs.values.catch_up.Goals as goal
+use Rattle.round_kernel.proofs.values.catch_up_each.Goals as goal
 
 abbrev no_change : Change
 no_change = record { node = record { 0 = 0 }; value = Nil }
