@@ -3,12 +3,13 @@
 
 ghost use Rattle.std.specs.Prelude.{◌≡◌, ◌<◌};
 
+use quick_updates::QuickSteps;
 use std::marker::Brand;
 use std::process::ExitCode;
 use std::sync::ledger::{Blank, Ledger};
 use std::{env, io};
 use surge_cli::{Status, refuse_words, surge};
-use surge_outside::{DiskFiles, StdSink, Steps};
+use surge_outside::{DiskFiles, StdSink};
 
 fn words(rt: &HostRuntime) -> io::Result<Vec<String>> {
     let mut words = Vec::new(rt.alloc());
@@ -24,7 +25,7 @@ fn run<L: Ledger>(rt: HostRuntime, blank: Blank, words: &[String]) -> Status
     requires parts { blank.parts ≡ L.parts }
     requires some { 0 < L.parts }
 {
-    let mut steps = Steps::<L>::new(blank);
+    let mut steps = QuickSteps::<L>::new(blank);
     let mut out = StdSink::new(rt.stdout());
     let mut err = StdSink::new(rt.stderr());
     let alloc = rt.alloc();
