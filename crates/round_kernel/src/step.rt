@@ -203,7 +203,7 @@ fn run_rounds<U: Updater>(
     let mut kept = vec![in alloc; Kept::new(); frame.graph.node_count() as usize]?;
     let mut aids = Aids::new(alloc, frame, &lists, listed, updater)?;
     let mut history = History::beside(alloc, frame.history)?;
-    let mut made = Made::new(alloc);
+    let mut made = Made::new(alloc, frame.graph.node_count())?;
     let mut work = 0;
     let mut round = 0;
     while round < frame.limit && !is_quiet(frame.history, &history, round) {

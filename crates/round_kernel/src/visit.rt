@@ -58,14 +58,16 @@ pub(crate) struct Made {
 }
 
 impl Made {
-    /// Nothing yet.
-    pub(crate) fn new(alloc: Global) -> Made {
-        Made {
-            marks: List::new(alloc),
-            changes: List::new(alloc),
+    /// Nothing yet, with room for a mark and a change of each node, of so many. The error is want of memory.
+    pub(crate) fn new(alloc: Global, count: u32) -> Result<Made, NoMemory> {
+        let marks = Vec::with_capacity(alloc, count as usize)?;
+        let changes = Vec::with_capacity(alloc, count as usize)?;
+        Ok(Made {
+            marks: List::from_vec(marks),
+            changes: List::from_vec(changes),
             few: false,
             stirred: List::new(alloc),
-        }
+        })
     }
 
     /// No marks and no changes anew.

@@ -1,9 +1,10 @@
-use Rattle.std.proofs.Common.{◌≡◌, ◌∙◌, ◌+◌, ◌-◌, ℕ, List, Vec, Global, length, ap, sym, subst, inr, arith}
+use Rattle.std.proofs.Common.{◌≡◌, ◌∙◌, ◌+◌, ◌-◌, ℕ, List, Vec, Global, length, get_or, ap, sym, subst, inr, arith}
 use Rattle.graph_model.specs.declared.value.Val.{Val}
 use Rattle.std.specs.Vec.{with_items}
 use Rattle.std.proofs.lemmas.List.{length-replicate, with_items_is}
 use Rattle.lone_work.specs.StepLaws.{no-round}
 use Rattle.round_kernel.specs.declared.tally.Kept.{Kept}
+use Rattle.round_kernel.specs.Tallies.{kept_of, no_tally}
 use Rattle.round_kernel.specs.Frames.{AreStirred, new_arcs, old_arcs}
 use Rattle.round_kernel.proofs.Growing.{rounds-none}
 use Rattle.round_kernel.proofs.Ending.{IsEnd, end-quiet, end-all, run-history, run-work, run-new, run-old}
@@ -26,6 +27,10 @@ loop-round-init g c = record {
   few = omega arith;
   calls = omega arith;
 }
+
+pub run_one-requires-clause-kept : goal.run_one-requires-clause-kept
+run_one-requires-clause-kept g c = λ later v low was.
+    ap (λ (ks : List Kept). get_or ks v (kept_of no_tally)) c.deref_mut.ensures.value ∙ c.loop-round.invariant.kept later v low was
 
 pub loop-round-preserved : goal.loop-round-preserved
 loop-round-preserved g c =
