@@ -1,6 +1,6 @@
 -- When a round begins, all who may be active or counted in it wait.
 use Rattle.std.proofs.Common.{◌≡◌, ◌∙◌, ◌<◌, ◌≤◌, ◌+◌, ◌-◌, [], suc, sym, ap, subst, refl, ℕ, Bool, true, false, List, Some, None, get_or, arith, inl, inr}
-use Rattle.std.specs.Prelude.{All, ◌⊎◌, ◌||◌, not}
+use Rattle.std.specs.Prelude.{All, ◌⊎◌, ◌||◌}
 use Rattle.std.proofs.lemmas.Bool.{cases_Bool}
 use Rattle.std.proofs.lemmas.List.Elements.{All-weaker}
 use Rattle.std.proofs.lemmas.List.Sorted.{All-permutation, IsPermutation-sym}
@@ -9,7 +9,6 @@ use Rattle.vertex_lang.specs.declared.arc.Arc.{Arc}
 use Rattle.vertex_lang.specs.declared.program.Program.{Program}
 use Rattle.graph_model.specs.GraphData.{GraphData}
 use Rattle.vertex_lang.specs.Expressions.{Answer, sent_by, send_words}
-use Rattle.vertex_lang.specs.Lone.{same_value}
 use Rattle.vertex_lang.specs.Rounds.{value_at}
 use Rattle.lone_work.specs.Work.{node_active, node_touched, node_marked, touched_before}
 use Rattle.lone_work.specs.WorkLaws.{untouched-value}

@@ -194,7 +194,7 @@ module _ (answer : Answer) (f : Frame) (r : ℕ) (lists : Lists) (frame : IsFram
       (stays : mid.apart ≡ was.apart) (moved : AreSet (λ u to. to ≡ r + 1) 0 new was.moved.items mid.moved.items)
       (size : length next.apart.items ≡ length mid.apart.items)
       (apart : f.first ≡ false → (u e : ℕ) → u < count_in f → get_or next.apart.items u false ≡ false
-          → sent_in answer f.program.now f.graph.now (new_arcs f) (r + 1) u e ≡ sent_in answer f.program.now f.graph.now (arcs_in f.rows.now.by_head f.old.now) (r + 1) u e)
+      → sent_in answer f.program.now f.graph.now (new_arcs f) (r + 1) u e ≡ sent_in answer f.program.now f.graph.now (arcs_in f.rows.now.by_head f.old.now) (r + 1) u e)
       (kept : next.moved ≡ mid.moved) (turned : next.turned ≡ was.turned) where
     same-moved : (u : ℕ) → get_or next.moved.items u 0 ≡ get_or mid.moved.items u 0
     same-moved u = ap (λ v. get_or v.items u 0) kept

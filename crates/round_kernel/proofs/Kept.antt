@@ -46,13 +46,13 @@ kept-one kind ms ns e =
     kept-from (clamped (total ms)) (clamped (total ns)) (length ms) (length ns) (ap clamped (total-one ms ns s)) (length-one ms ns s)
 
 -- where something else is kept of the round before, the node has a mark
-pub marked-kept : (answer : Answer) (p : Program) (graph : GraphData) (arcs : List Arc) (v r k : ℕ) → r ≡ suc k → (kept : Kept) (tally : Tally)
-    → kept ≡ kept_at answer p graph arcs k v → tally ≡ tally_of p.gather (got_values answer p graph arcs v r) → kept ≢ kept_of tally → true ≡ node_marked answer p graph (Some arcs) v r
-marked-kept answer p graph arcs v r k at kept tally ek et differs =
-    let now = got_values answer p graph arcs v r in
+pub marked-kept : (answer : Answer) (p : Program) (graph : GraphData) (arcs : List Arc) (v r k : ℕ) → r ≡ suc k → (kept now : Kept)
+    → kept ≡ kept_at answer p graph arcs k v → now ≡ kept_at answer p graph arcs r v → kept ≢ now → true ≡ node_marked answer p graph (Some arcs) v r
+marked-kept answer p graph arcs v r k at kept now ek en differs =
+    let after = got_values answer p graph arcs v r in
     let before = got_values answer p graph arcs v k in
-    elim (cases_Bool (are_one same_value now before)) [
-      | inl e ↦ absurd (differs (ek ∙ sym (kept-one p.gather now before e) ∙ sym (ap (λ (t : Tally). kept_of t) et)))
+    elim (cases_Bool (are_one same_value after before)) [
+      | inl e ↦ absurd (differs (ek ∙ sym (kept-one p.gather after before e) ∙ sym en))
       | inr e ↦ marked-by-messages answer p graph arcs v r k at e
     ]
 

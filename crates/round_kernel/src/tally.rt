@@ -36,11 +36,11 @@ impl Kept {
         Kept { total: 0, count: 0 }
     }
 
-    /// Whether it tells these messages from those that it is of.
-    pub(crate) fn differs(self, tally: Tally) -> bool
-        ensures { IsTrue result → self ≢ kept_of tally }
+    /// Whether it tells the messages that it is of from those that another is of.
+    pub(crate) fn differs(self, other: Kept) -> bool
+        ensures { IsTrue result → self ≢ other }
     {
-        self.total != clamp_number(tally.total) || self.count != tally.count
+        self.total != other.total || self.count != other.count
     }
 }
 

@@ -119,7 +119,8 @@ impl Told {
         }
     }
 
-    // Whether any node may send something else in both views.
+    // Whether any node may send something else in both views. Where nearly all nodes were touched hardly any is asked for it: then
+    // all are said to.
     fn part_everyone(&mut self, frame: Frame<'_>, lists: &Lists)
         requires long { AreLong (count_in frame) lists.now }
         requires degree { frame.by_degree ≡ false → IgnoresOutdeg frame.program.now.send }
@@ -129,9 +130,23 @@ impl Told {
         ensures moved { self.new.moved ≡ self.old.moved }
         ensures turned { self.new.turned ≡ self.old.turned }
     {
+        if are_nearly_all(&lists.touched) {
+            self.suspect_everyone();
+            return;
+        }
         for node in 0..frame.graph.node_count() {
             self.flag_anew(frame, lists, NodeNo(node));
         }
+    }
+
+    // Each node may send something else in both views.
+    fn suspect_everyone(&mut self)
+        ensures size { length self.new.apart.items ≡ length self.old.apart.items }
+        ensures all { (u : ℕ) → u < length self.old.apart.items → get_or self.new.apart.items u false ≡ true }
+        ensures moved { self.new.moved ≡ self.old.moved }
+        ensures turned { self.new.turned ≡ self.old.turned }
+    {
+        self.apart.fill(true);
     }
 
     // Whether a node that changes may send something else in both views. One that was never touched has the same value in
@@ -166,6 +181,15 @@ impl Told {
     {
         self.apart[node.0 as usize] = is_apart(frame, lists, node);
     }
+}
+
+// Whether all but one of 16 of these flags are set.
+fn are_nearly_all(flags: &[bool]) -> bool {
+    let mut unset = 0;
+    for flag in flags {
+        unset += usize::from(!*flag);
+    }
+    unset <= flags.len() / 16
 }
 
 // Whether each node may send something else in both views at round 0. There it has the same value in both, so none does

@@ -264,10 +264,11 @@ fn visit_again<U: Updater>(
     let tally = aids.feed.tally(
         program, graph, rows, &sides.new, spot.node, spot.round, updater,
     );
+    let now = tally.kept();
     let marked = is_marked(
-        program, graph, rows, sides, spot, was, *kept, tally, aids, scratch, updater,
+        program, graph, rows, sides, spot, was, *kept, now, aids, scratch, updater,
     )?;
-    *kept = tally.kept();
+    *kept = now;
     push_mark(&mut made.marks, marked, spot.node)?;
     if !either(marked, spot.marked) {
         return Ok(0);
@@ -365,7 +366,7 @@ fn is_marked<U: Updater>(
     spot: Spot,
     was: bool,
     kept: Kept,
-    tally: Tally,
+    now: Kept,
     aids: &Aids,
     scratch: &mut Scratch,
     updater: &U,
@@ -378,12 +379,12 @@ fn is_marked<U: Updater>(
     requires before { IsRound U.answer program.now graph.now rows.now.by_head sides.now.new.edges.now sides.now.new.degrees.now sides.now.before.now (spot.round - 1) }
     requires was { was ≡ was_touched U.answer program.now graph.now rows.now.by_head spot.first sides.now.old.edges.now sides.now.new.edges.now spot.round spot.node.0 }
     requires kept { 0 < spot.round → was ≡ true → kept ≡ kept_at U.answer program.now graph.now (arcs_in rows.now.by_head sides.now.new.edges.now) (spot.round - 1) spot.node.0 }
-    requires tally { tally ≡ tally_of program.now.gather (got_values U.answer program.now graph.now (arcs_in rows.now.by_head sides.now.new.edges.now) spot.node.0 spot.round) }
+    requires now { now ≡ kept_at U.answer program.now graph.now (arcs_in rows.now.by_head sides.now.new.edges.now) spot.round spot.node.0 }
     requires new_sent { AreSent sides.now.new.alike program.now graph.now sides.now.new.degrees.now sides.now.new.values.now sides.now.new.sent.now }
     requires aided { IsAided U.answer program.now graph.now rows.now.by_head spot.first sides.now.old.edges.now sides.now.new.edges.now spot.round aids.now }
     ensures { IfOk result (λ b. b ≡ node_marked U.answer program.now graph.now (Some (arcs_in rows.now.by_head sides.now.new.edges.now)) spot.node.0 spot.round) }
 {
-    if was && kept.differs(tally) {
+    if was && kept.differs(now) {
         return Ok(true);
     }
     is_other_input(program, graph, rows, sides, spot, aids, scratch, updater)

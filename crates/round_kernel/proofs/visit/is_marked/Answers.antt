@@ -9,4 +9,4 @@ returns-then-differs g c =
     let later = c.requires.later in
     let at : r ≡ suc (r - 1) = omega arith in
     marked-kept g.U.Updater.answer c.args.program.now c.args.graph.now (arcs_in c.args.rows.now.by_head c.args.sides.now.new.edges.now) c.args.spot.node.0 r (r - 1) at
-    c.args.kept c.args.tally (c.requires.kept later c.if-was.true) c.requires.tally (c.differs.ensures c.if-differs.true)
+    c.args.kept c.args.now (c.requires.kept later c.if-was.true) c.requires.now (c.differs.ensures c.if-differs.true)

@@ -10,17 +10,17 @@ use Rattle.round_kernel.specs.Tallies.{kept_of}
 use Rattle.round_kernel.proofs.Visits.{marked-first, counted-where, stays-unchanged}
 use Rattle.round_kernel.proofs.visit.visit_again.Goals as goal
 
-pub is_marked-requires-clause-tally : goal.is_marked-requires-clause-tally
-is_marked-requires-clause-tally g c = c.tally-tally.ensures
+pub is_marked-requires-clause-now : goal.is_marked-requires-clause-now
+is_marked-requires-clause-now g c = c.kept-now.ensures ∙ ap (λ (t : Tally). kept_of t) c.tally-tally.ensures
 
 pub evaluate-value-requires-clause-tally : goal.evaluate-value-requires-clause-tally
 evaluate-value-requires-clause-tally g c = c.tally-tally.ensures
 
 pub returns-then-not-either-clause-kept : goal.returns-then-not-either-clause-kept
-returns-then-not-either-clause-kept g c = c.kept.ensures ∙ ap (λ (t : Tally). kept_of t) c.tally-tally.ensures
+returns-then-not-either-clause-kept g c = c.kept-now.ensures ∙ ap (λ (t : Tally). kept_of t) c.tally-tally.ensures
 
 pub returns-clause-kept : goal.returns-clause-kept
-returns-clause-kept g c = c.kept.ensures ∙ ap (λ (t : Tally). kept_of t) c.tally-tally.ensures
+returns-clause-kept g c = c.kept-now.ensures ∙ ap (λ (t : Tally). kept_of t) c.tally-tally.ensures
 
 pub returns-then-not-either-clause-count : goal.returns-then-not-either-clause-count
 returns-then-not-either-clause-count g c =

@@ -1,4 +1,5 @@
-use Rattle.std.proofs.Common.{◌≡◌, ◌∙◌, ℕ, false, get_or, sym, subst, arith, inl, inr}
+use Rattle.std.proofs.Common.{◌∙◌, ℕ, false, get_or, sym, subst, arith, inl, inr}
+use Rattle.round_kernel.proofs.Waiting.{clash}
 use Rattle.std.proofs.lemmas.Bool.{cases_eq}
 use Rattle.round_kernel.specs.Flags.{IsFlagged}
 use Rattle.round_kernel.proofs.told.Told.part_everyone.Goals as goal
@@ -18,3 +19,7 @@ loop-node-preserved c =
       moved = made.moved ∙ inv.moved;
       turned = made.turned ∙ inv.turned;
     }
+
+pub returns-then-are_nearly_all-clause-apart : goal.returns-then-are_nearly_all-clause-apart
+returns-then-are_nearly_all-clause-apart c = λ u low unset.
+    absurd (clash (get_or c.suspect_everyone.new.self.apart.items u false) unset (c.suspect_everyone.ensures.all u (omega (arith, low, c.requires.apart))))
