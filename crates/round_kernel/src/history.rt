@@ -39,13 +39,21 @@ impl History {
         }
     }
 
-    /// The same, with room for as much as another one holds. The error is want of memory.
+    /// The same, with room for a little more than another one holds. The error is want of memory.
     pub(crate) fn beside(alloc: Global, other: &History) -> Result<History, NoMemory>
         ensures changes { IfOk result (λ h. h.changes ≡ []) }
         ensures marks { IfOk result (λ h. h.marks ≡ []) }
     {
-        let changes = ChainedLists::with_room(alloc, other.changes.size(), other.changes.len())?;
-        let marks = ChainedLists::with_room(alloc, other.marks.size(), other.marks.len())?;
+        let changes = ChainedLists::with_room(
+            alloc,
+            with_more(other.changes.size()),
+            with_more(other.changes.len()),
+        )?;
+        let marks = ChainedLists::with_room(
+            alloc,
+            with_more(other.marks.size()),
+            with_more(other.marks.len()),
+        )?;
         let starts = List::new(alloc);
         Ok(History {
             changes,
@@ -77,4 +85,9 @@ impl History {
     {
         self.marks.at(round as usize)
     }
+}
+
+// A sixteenth more: neighbouring views differ little, and a list that is a little too short is copied whole.
+fn with_more(size: usize) -> usize {
+    size.saturating_add(size / 16)
 }
