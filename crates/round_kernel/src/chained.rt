@@ -1,31 +1,42 @@
-//! Lists that lie one behind the other.
+//! Lists of which the short ones lie one behind the other.
 
 ghost use Rattle.std.specs.Prelude.{◌≡◌, ◌≤◌, ◌-◌, [], ◌∷◌, ◌++◌, length, get_or, take, drop, IfOk, OnOk};
-ghost use Rattle.round_kernel.specs.RowLists.{begin_of};
 
 use std::alloc::Global;
 use std::marker::Model;
-use surge_outside::NoMemory;
+use surge_outside::{List, NoMemory};
 
-/// Lists whose items lie one behind the other in memory: so many short lists take no more than their items and where each
-/// ends. Contracts see the list of the lists.
+/// Lists of which the short ones lie one behind the other in memory: so many of them take no more than their items and where
+/// each stands. A long one keeps the memory that it was made in, so that it isn't copied. Contracts see the list of the lists.
 #[derive(Debug, Drop)]
 pub struct ChainedLists<T> {
+    /// The items of the short lists, one behind the other.
     items: Vec<T>,
-    /// Behind how many items each list ends.
-    ends: Vec<usize>,
+    /// The long lists.
+    long: Vec<List<T>>,
+    /// Where each list stands.
+    sites: Vec<Site>,
+}
+
+/// Where a list stands.
+#[derive(Clone, Copy, Debug)]
+enum Site {
+    /// It is a short one, and its items are those from the first place up to the second.
+    Short(usize, usize),
+    /// It is this one of the long lists.
+    Long(usize),
 }
 
 impl<T> Model for ChainedLists<T> {
-    ghost use Rattle.std.specs.Prelude.{List, length};
+    ghost use Rattle.std.specs.Prelude.{List};
 
     ghost Value = { List (List T) };
 
-    ghost use Rattle.round_kernel.specs.Chained.{lists_of, AreEnds};
+    ghost use Rattle.round_kernel.specs.Chained.{lists_at, AreSites};
 
-    ghost view = { λ chained. lists_of 0 chained.items.items chained.ends.items };
+    ghost view = { λ chained. lists_at chained.items.items chained.long.items chained.sites.items };
 
-    ghost invariant = { λ chained. AreEnds 0 chained.ends.items (length chained.items.items) };
+    ghost invariant = { λ chained. AreSites chained.items.items chained.long.items chained.sites.items };
 }
 
 impl<T> ChainedLists<T> {
@@ -35,7 +46,8 @@ impl<T> ChainedLists<T> {
     {
         ChainedLists {
             items: Vec::new(alloc),
-            ends: Vec::new(alloc),
+            long: Vec::new(alloc),
+            sites: Vec::new(alloc),
         }
     }
 
@@ -43,10 +55,10 @@ impl<T> ChainedLists<T> {
     pub fn len(&self) -> usize
         ensures { result ≡ length self.now }
     {
-        self.ends.len()
+        self.sites.len()
     }
 
-    /// How many items are held.
+    /// How many items the short lists hold.
     pub(crate) fn size(&self) -> usize {
         self.items.len()
     }
@@ -55,31 +67,48 @@ impl<T> ChainedLists<T> {
     pub fn at(&self, place: usize) -> &[T]
         ensures { result.now ≡ get_or self.now place [] }
     {
-        if place >= self.ends.len() {
+        if place >= self.sites.len() {
             return &[];
         }
-        part(&self.items, begin_at(&self.ends, place), self.ends[place])
+        match self.sites[place] {
+            Site::Short(from, to) => part(&self.items, from, to),
+            Site::Long(number) => self.long[number].as_slice(),
+        }
     }
 }
 
 impl<T: Copy + Drop> ChainedLists<T> {
-    /// No list, with room for so many items in so many lists. The error is want of memory.
+    /// No list, with room for so many items of short lists in so many lists. The error is want of memory.
     pub fn with_room(alloc: Global, items: usize, lists: usize) -> Result<ChainedLists<T>, NoMemory>
         ensures { IfOk result (λ chained. chained ≡ []) }
     {
         let items = Vec::with_capacity(alloc, items)?;
-        let ends = Vec::with_capacity(alloc, lists)?;
-        Ok(ChainedLists { items, ends })
+        let sites = Vec::with_capacity(alloc, lists)?;
+        Ok(ChainedLists {
+            items,
+            long: Vec::new(alloc),
+            sites,
+        })
     }
 
-    /// Adds a list at the end. The error is want of memory; then the lists may be any.
+    /// Adds a list at the end, as a short one: its items are copied. The error is want of memory; then the lists may be any.
     pub fn push(&mut self, list: &[T]) -> Result<(), NoMemory>
         ensures { OnOk result (self.new ≡ self.old ++ list.now ∷ []) }
     {
-        let begin = begin_at(&self.ends, self.ends.len());
-        self.items.truncate(begin);
+        let from = self.items.len();
         self.items.extend_from_slice(list)?;
-        self.ends.push(self.items.len())?;
+        self.sites.push(Site::Short(from, self.items.len()))?;
+        Ok(())
+    }
+
+    /// Adds a list at the end, as a long one: it is moved in with the memory that it has. The error is want of memory; then
+    /// the lists may be any.
+    pub fn push_owned(&mut self, list: List<T>) -> Result<(), NoMemory>
+        ensures { OnOk result (self.new ≡ self.old ++ list ∷ []) }
+    {
+        let number = self.long.len();
+        self.long.push(list)?;
+        self.sites.push(Site::Long(number))?;
         Ok(())
     }
 
@@ -87,16 +116,8 @@ impl<T: Copy + Drop> ChainedLists<T> {
     pub fn truncate(&mut self, count: usize)
         ensures { self.new ≡ take count self.old }
     {
-        self.ends.truncate(count);
+        self.sites.truncate(count);
     }
-}
-
-// Where a list begins: where the one before it ends.
-fn begin_at(ends: &[usize], place: usize) -> usize
-    requires { place ≤ length ends.now }
-    ensures { result ≡ begin_of ends.now place }
-{
-    if place == 0 { 0 } else { ends[place - 1] }
 }
 
 // The items from one place up to another.

@@ -293,21 +293,55 @@ fn run_one<U: Updater>(
         updater,
     );
     in_node_order(frame, round, lists, &aids.told, &mut made.changes, updater)?;
-    add_round(history, round, made)?;
+    add_round(alloc, history, round, made, frame.graph.node_count())?;
     Ok(work)
 }
 
-// Adds what a round gave. The marks of round 0 are not kept.
-fn add_round(history: &mut History, round: u32, made: &Made) -> Result<(), NoMemory>
-    ensures changes { OnOk result (history.new.changes ≡ history.old.changes ++ made.now.changes ∷ []) }
+// Adds what a round gave. The marks of round 0 are not kept. The list of changes may be moved out of what was made, and another one
+// with as much room put in its place.
+fn add_round(
+    alloc: Global,
+    history: &mut History,
+    round: u32,
+    made: &mut Made,
+    count: u32,
+) -> Result<(), NoMemory>
+    ensures changes { OnOk result (history.new.changes ≡ history.old.changes ++ made.old.changes ∷ []) }
     ensures first { OnOk result (round ≡ 0 → history.new.marks ≡ history.old.marks) }
-    ensures later { OnOk result (0 < round → history.new.marks ≡ history.old.marks ++ made.now.marks ∷ []) }
+    ensures later { OnOk result (0 < round → history.new.marks ≡ history.old.marks ++ made.old.marks ∷ []) }
+    ensures few { made.new.few ≡ made.old.few }
+    ensures stirred { made.new.stirred ≡ made.old.stirred }
 {
-    history.changes.push(made.changes.as_slice())?;
+    add_changes(alloc, &mut history.changes, made, count)?;
     if round == 0 {
         return Ok(());
     }
     history.marks.push(made.marks.as_slice())
+}
+
+// Adds the changes of a round. A long list, which uses more than half of the room that it was given, is moved in. A short one is
+// copied, so that it takes no memory of its own.
+fn add_changes(
+    alloc: Global,
+    changes: &mut ChainedLists<Change>,
+    made: &mut Made,
+    count: u32,
+) -> Result<(), NoMemory>
+    ensures changes { OnOk result (changes.new ≡ changes.old ++ made.old.changes ∷ []) }
+    ensures marks { made.new.marks ≡ made.old.marks }
+    ensures few { made.new.few ≡ made.old.few }
+    ensures stirred { made.new.stirred ≡ made.old.stirred }
+{
+    if made.changes.len() <= most_copied(count) {
+        return changes.push(made.changes.as_slice());
+    }
+    let list = made.take_changes(alloc, count)?;
+    changes.push_owned(list)
+}
+
+// How many changes a short list has at most, given the number of nodes: half as many, or a thousand where that is more.
+fn most_copied(count: u32) -> usize {
+    (count as usize / 2).max(1_000)
 }
 
 // Takes away rounds at the end in which nothing changes.
