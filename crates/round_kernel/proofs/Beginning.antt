@@ -1,6 +1,6 @@
 -- What a step is given: a first view, or one behind another; and the lists at round 0.
 use Rattle.std.proofs.Common.{◌≡◌, ◌∙◌, ◌<◌, ◌^◌, ◌+◌, ◌∷◌, [], sym, ap, subst, refl, ℕ, Bool, true, false, List, None, length, get_or, map, arith, inl, inr}
-use Rattle.std.specs.Prelude.{All, Contains, replicate}
+use Rattle.std.specs.Prelude.{All, Contains, IfSome, replicate}
 use Rattle.std.proofs.lemmas.List.{get_or-replicate}
 use Rattle.std.proofs.lemmas.List.Concat.{flat_map-cons}
 use Rattle.std.proofs.lemmas.List.Elements.{All-nil, All-contains, Contains-append_left, Contains-append_right}
@@ -25,7 +25,7 @@ use Rattle.round_kernel.specs.declared.round.Lists.{Lists}
 use Rattle.round_kernel.specs.declared.rows.Rows.{Rows}
 use Rattle.round_kernel.specs.Sides.{arcs_in, IsTurned, AreDegrees, AreSent, MayKeep, IsRound}
 use Rattle.lone_work.specs.Work.{node_marked}
-use Rattle.round_kernel.specs.Histories.{IsHistory, HasChanges, HasNodes}
+use Rattle.round_kernel.specs.Histories.{AreStarts, IsHistory, HasChanges, HasNodes}
 use Rattle.round_kernel.specs.Queues.{IsQueue}
 use Rattle.round_kernel.specs.Rounds.{was_touched}
 use Rattle.round_kernel.specs.Frames.{IsFrame, StandAt, count_in, was_touched_at}
@@ -36,7 +36,7 @@ use Rattle.round_kernel.proofs.Calming.{none-marked}
 -- ---- no view before
 
 -- in no view nothing changes
-pub none-history : (answer : Answer) (p : Program) (graph : GraphData) (rounds : ℕ) (h : History) → h.changes ≡ [] → h.marks ≡ [] → h.starts ≡ [] → IsHistory answer p graph None rounds h
+pub none-history : (answer : Answer) (p : Program) (graph : GraphData) (rounds : ℕ) (h : History) → h.changes ≡ [] → h.marks ≡ [] → h.starts ≡ None → IsHistory answer p graph None rounds h
 none-history answer p graph rounds h ec em es = record {
   changes = λ k low. subst (λ (cs : List Change). HasChanges (length graph.ids) [] [] cs) (sym (ap (λ (xs : List (List Change)). get_or xs k []) ec)) (record {
     within = All-nil (λ (c : Change). c.node.0 < length graph.ids);
@@ -47,7 +47,7 @@ none-history answer p graph rounds h ec em es = record {
     within = All-nil (λ (n : NodeNo). n.0 < length graph.ids);
     listed = λ v under. sym (none-marked answer p graph v (k + 1));
   });
-  starts = inl es;
+  starts = subst (λ o. IfSome o (λ s. AreStarts p graph s.value)) (sym es) tt;
 }
 
 -- ---- arcs of edges that are told
@@ -96,8 +96,8 @@ module _ (answer : Answer) (f : Frame) (frame : IsFrame answer f f.limit) where
   untouched-start false v = refl
 
   pub at-start : (lists : Lists)
-      → lists.starts.items ≡ map (start_of f.program.now f.graph.now) (nodes_of f.graph.now)
-      → lists.old_now.items ≡ lists.starts.items → lists.new_now.items ≡ lists.starts.items → lists.new_before.items ≡ lists.starts.items
+      → lists.starts.value ≡ map (start_of f.program.now f.graph.now) (nodes_of f.graph.now)
+      → lists.old_now.items ≡ lists.starts.value → lists.new_now.items ≡ lists.starts.value → lists.new_before.items ≡ lists.starts.value
       → length lists.old_degrees.items ≡ count_in f → AreDegrees f.program.now f.graph.now (arcs_in f.rows.now.by_head f.old.now) lists.old_degrees.items → ((u : ℕ) → u < count_in f → get_or lists.old_degrees.items u 0 < 2 ^ 32)
       → length lists.new_degrees.items ≡ count_in f → AreDegrees f.program.now f.graph.now (arcs_in f.rows.now.by_head f.new.now) lists.new_degrees.items → ((u : ℕ) → u < count_in f → get_or lists.new_degrees.items u 0 < 2 ^ 32)
       → length lists.touched.items ≡ count_in f → ((v : ℕ) → v < count_in f → get_or lists.touched.items v false ≡ f.first)
@@ -105,7 +105,7 @@ module _ (answer : Answer) (f : Frame) (frame : IsFrame answer f f.limit) where
       → length lists.marked.items ≡ count_in f
       → length lists.watched.items ≡ count_in f → All (λ a. get_or lists.watched.items a.tail.0 false ≡ true) f.turned.now
       → TellTurned (λ a. a.tail.0) f.graph.now f.rows.now.by_head f.first f.old.now f.new.now lists.turned
-      → MayKeep lists.alike f.program.now f.graph.now → AreSent lists.alike f.program.now f.graph.now lists.new_degrees.items lists.starts.items lists.new_sent.items
+      → MayKeep lists.alike f.program.now f.graph.now → AreSent lists.alike f.program.now f.graph.now lists.new_degrees.items lists.starts.value lists.new_sent.items
       → IsQueue (count_in f) lists.queue → StandAt answer f 0 (was_touched_at answer f 0) lists
   at-start lists es eon enn enb sod aod bod snd and bnd st at sp sm sw aw tt mk kn q =
       let old = at-first f.old.now lists.old_degrees.items lists.old_now.items frame.old_size sod aod bod (eon ∙ es) in

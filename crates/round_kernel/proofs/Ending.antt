@@ -1,6 +1,6 @@
 -- Rounds behind the last one that changes something in either view: what they would give is known.
 use Rattle.std.proofs.Common.{◌≡◌, ◌≢◌, ◌∙◌, ◌<◌, ◌≤◌, ◌+◌, ◌-◌, ◌∷◌, [], zero, suc, sym, ap, subst, refl, ℕ, Bool, true, false, List, Some, length, get_or, arith, inl, inr}
-use Rattle.std.specs.Prelude.{◌||◌, ◌==◌, not, if◌then◌else◌}
+use Rattle.std.specs.Prelude.{◌||◌, ◌==◌, not, IfSome, if◌then◌else◌}
 use Rattle.std.proofs.lemmas.Bool.{cases_lt, eq-eqb, eqb-true}
 use Rattle.std.proofs.lemmas.List.{ext_get_or}
 use Rattle.std.proofs.Math.ListN.{get_or-eq_default}
@@ -119,20 +119,20 @@ module _ (answer : Answer) (f : Frame) where
       quiet-old : (k : ℕ) → r < f.limit → r ≤ k + 1 → f.first ≡ false → lone answer f.program.now f.graph.now (arcs_in f.rows.now.by_head f.old.now) (k + 1) ≡ lone answer f.program.now f.graph.now (arcs_in f.rows.now.by_head f.old.now) k
       quiet-old k less low one = again answer f.program.now f.graph.now (arcs_in f.rows.now.by_head f.old.now) (r - 1) k (end.old less one) (omega (arith, low))
 
-      pub run-history : (changes : List (List Change)) → ((k : ℕ) → get_or changes k [] ≡ get_or h.changes k []) → (starts : List Val) → AreStarts f.program.now f.graph.now starts
-          → IsHistory answer f.program.now f.graph.now (Some (new_arcs f)) f.limit (record { changes = changes; marks = h.marks; starts = starts })
-      run-history changes places starts are = record {
+      pub run-history : (made : History) → ((k : ℕ) → get_or made.changes k [] ≡ get_or h.changes k []) → made.marks ≡ h.marks → IfSome made.starts (λ s. AreStarts f.program.now f.graph.now s.value)
+          → IsHistory answer f.program.now f.graph.now (Some (new_arcs f)) f.limit made
+      run-history made places marks are = record {
         changes = λ k low. subst (λ (cs : List Change). HasChanges (count_in f) (lone_at answer f k) (lone_at answer f (k + 1)) cs) (sym (places k)) (elim (cases_lt k r) [
           | inl less ↦ rounds.changes k less
           | inr most ↦ subst (λ (cs : List Change). HasChanges (count_in f) (lone_at answer f k) (lone_at answer f (k + 1)) cs) (sym (get_or-eq_default h.changes [] (omega (arith, most, rounds.size)))) (no-changes (count_in f) (lone_at answer f k) (lone_at answer f (k + 1)) (quiet-new k (omega arith) (omega arith)))
         ]);
-        marks = λ k low. elim (cases_lt (k + 1) r) [
+        marks = λ k low. subst (λ (ms : List (List NodeNo)). HasNodes (count_in f) (marked_at answer f (k + 1)) (get_or ms k [])) (sym marks) (elim (cases_lt (k + 1) r) [
           | inl less ↦ rounds.marks k less
           | inr most ↦ subst (λ (ns : List NodeNo). HasNodes (count_in f) (marked_at answer f (k + 1)) ns) (sym (get_or-eq_default h.marks [] (omega (arith, most, rounds.marks_size)))) (record {
             within = All-nil (λ (n : NodeNo). n.0 < count_in f);
             listed = λ v under. sym (unmarked-still answer f.program.now f.graph.now (new_arcs f) v k (quiet-new k (omega arith) most));
           })
-        ];
+        ]);
         starts = are;
       }
 

@@ -17,6 +17,16 @@ pub record AreCountedIf (asked : Bool) (graph : GraphData) (all : List Arc) (edg
   pub small : (u : ℕ) → u < length graph.ids → get_or degrees u 0 < 2 ^ 32
   pub each : asked ≡ true → (u : ℕ) → u < length graph.ids → get_or degrees u 0 ≡ outdeg (arcs_in all edges) u
 
+-- there is a small number for each node
+pub record AreSmall (graph : GraphData) (degrees : List ℕ) : Type 0 where
+  pub size : length degrees ≡ length graph.ids
+  pub small : (u : ℕ) → u < length graph.ids → get_or degrees u 0 < 2 ^ 32
+
+-- so there is in both lists
+pub record ArePlain (graph : GraphData) (degrees : Degrees) : Type 0 where
+  pub before : AreSmall graph degrees.old.items
+  pub after : AreSmall graph degrees.new.items
+
 -- in two views
 pub record AreBoth (asked : Bool) (graph : GraphData) (all : List Arc) (old new : List Bool) (degrees : Degrees) : Type 0 where
   pub before : AreCountedIf asked graph all old degrees.old.items

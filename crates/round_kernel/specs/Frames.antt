@@ -119,8 +119,8 @@ pub record AreDivided (answer : Answer) (f : Frame) (r : ℕ) (marked : List Boo
 
 -- the lists are those of a round at a node that wasn't visited in it yet
 pub record IsPlace (answer : Answer) (f : Frame) (r v : ℕ) (lists : Lists) : Type 0 where
-  pub start : value_at lists.starts.items v ≡ start_of f.program.now f.graph.now v
-  pub starts_size : length lists.starts.items ≡ count_in f
+  pub start : value_at lists.starts.value v ≡ start_of f.program.now f.graph.now v
+  pub starts_size : length lists.starts.value ≡ count_in f
   pub new_now : IsRound answer f.program.now f.graph.now f.rows.now.by_head f.new.now lists.new_degrees.items lists.new_now.items r
   pub new_before : IsRound answer f.program.now f.graph.now f.rows.now.by_head f.new.now lists.new_degrees.items lists.new_before.items (r - 1)
   pub old_now : f.first ≡ false → IsRound answer f.program.now f.graph.now f.rows.now.by_head f.old.now lists.old_degrees.items lists.old_now.items r

@@ -1,5 +1,5 @@
 -- What a history says of the plain run of a view.
-use Rattle.std.specs.Prelude.{◌≡◌, ◌<◌, ◌+◌, ◌==◌, ◌⊎◌, ℕ, Bool, not, if◌then◌else◌, List, [], ◌∷◌, length, map, get_or, All, Option}
+use Rattle.std.specs.Prelude.{◌≡◌, ◌<◌, ◌+◌, ◌==◌, ℕ, Bool, not, if◌then◌else◌, List, [], ◌∷◌, length, map, get_or, All, IfSome, Option}
 use Rattle.std.specs.List.{list_any}
 use Rattle.graph_model.specs.declared.number.NodeNo.{NodeNo}
 use Rattle.graph_model.specs.declared.value.Val.{Val}
@@ -37,15 +37,15 @@ pub record AreChanged (start after now : List Val) (changes : List Change) : Typ
   pub size : length now ≡ length start
   pub at : (v : ℕ) → value_at now v ≡ (if is_changed v changes then value_at after v else value_at start v)
 
--- they are none, or the values with which the nodes start
+-- they are the values with which the nodes start
 abbrev pub AreStarts : Program → GraphData → List Val → Type 0
-AreStarts p graph starts = (starts ≡ []) ⊎ (starts ≡ map (start_of p graph) (nodes_of graph))
+AreStarts p graph starts = starts ≡ map (start_of p graph) (nodes_of graph)
 
 -- what is kept of a view, or of none, says what changes from round to round up to this number of rounds
 pub record IsHistory (answer : Answer) (p : Program) (graph : GraphData) (view : Option (List Arc)) (rounds : ℕ) (h : History) : Type 0 where
   pub changes : (k : ℕ) → k < rounds → HasChanges (length graph.ids) (lone_in answer p graph view k) (lone_in answer p graph view (k + 1)) (get_or h.changes k [])
   pub marks : (k : ℕ) → k + 1 < rounds → HasNodes (length graph.ids) (λ v. node_marked answer p graph view v (k + 1)) (get_or h.marks k [])
-  pub starts : AreStarts p graph h.starts
+  pub starts : IfSome h.starts (λ s. AreStarts p graph s.value)
 
 -- ---- how two lists of values differ
 

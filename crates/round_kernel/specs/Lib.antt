@@ -23,5 +23,6 @@ pub mod Flags
 pub mod Feeds
 pub mod Aiding
 pub mod Spans
+pub mod Spares
 pub mod Places
 pub mod TurnedArcs

@@ -12,6 +12,7 @@ use Rattle.round_kernel.specs.Counts.{AreCounted}
 use Rattle.round_kernel.specs.Links.{tail_of, link_of}
 use Rattle.round_kernel.specs.Lives.{AreLive}
 use Rattle.round_kernel.specs.Numbers.{AreProper}
+use Rattle.round_kernel.specs.Spares.{IsSpare}
 
 -- the tails of the arcs of the view
 abbrev pub AreTails : GraphData → List Arc → List Bool → Live NodeNo → Type 0
@@ -28,7 +29,8 @@ IsListed graph all edges listings.Nothing = ⊤
 IsListed graph all edges (listings.Tails live) = AreTails graph all edges live
 IsListed graph all edges (listings.Links column live) = AreLinks graph all edges column live
 
--- and the view is the one whose edges are told; and so many of its arcs leave each node
+-- and the view is the one whose edges are told; and so many of its arcs leave each node; and lists are left for the next step
 pub record IsPast (graph : GraphData) (all : List Arc) (past : Past) : Type 0 where
   pub listed : IsListed graph all past.edges.items past.listed
   pub counted : IfSome past.degrees (λ d. AreCounted graph all past.edges.items d.items)
+  pub spare : IsSpare graph past.spare

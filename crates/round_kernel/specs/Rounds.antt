@@ -28,7 +28,7 @@ TellParted answer p graph old new r parted = (v : ℕ) → v < length graph.ids 
 
 -- the lists stand at a round, and tell which nodes are touched
 pub record AreAt (answer : Answer) (p : Program) (graph : GraphData) (all : List Arc) (first : Bool) (old new : List Bool) (r : ℕ) (touched : ℕ → Bool) (lists : Lists) : Type 0 where
-  pub starts : lists.starts.items ≡ map (start_of p graph) (nodes_of graph)
+  pub starts : lists.starts.value ≡ map (start_of p graph) (nodes_of graph)
   pub new_now : IsRound answer p graph all new lists.new_degrees.items lists.new_now.items r
   pub new_before : IsRound answer p graph all new lists.new_degrees.items lists.new_before.items (r - 1)
   pub old_now : first ≡ false → IsRound answer p graph all old lists.old_degrees.items lists.old_now.items r

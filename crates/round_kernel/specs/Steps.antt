@@ -18,6 +18,7 @@ use Rattle.round_kernel.specs.declared.history.History.{History}
 use Rattle.round_kernel.specs.declared.rows.Rows.{Rows}
 use Rattle.round_kernel.specs.declared.round.Frame.{Frame}
 use Rattle.round_kernel.specs.declared.step.Run.{Run}
+use Rattle.round_kernel.specs.Counts.{ArePlain}
 use Rattle.round_kernel.specs.Histories.{IsHistory, HasNodes, HasChanges}
 use Rattle.round_kernel.specs.RowLists.{edge}
 use Rattle.round_kernel.specs.Sides.{arcs_in}
@@ -50,6 +51,7 @@ pub record IsRun (answer : Answer) (f : Frame) (run : Run) : Type 0 where
   pub work_is : run.work ≡ work answer f.program.now f.graph.now (new_arcs f) (old_arcs f) f.limit
   pub new_values : run.lists.new_now.items ≡ lone_at answer f f.limit
   pub old_values : f.first ≡ false → run.lists.old_now.items ≡ lone answer f.program.now f.graph.now (arcs_in f.rows.now.by_head f.old.now) f.limit
+  pub plain : ArePlain f.graph.now (record { old = run.lists.old_degrees; new = run.lists.new_degrees })
   pub touched_size : length run.lists.touched.items ≡ count_in f
   -- a node that was never touched has the same value in both views
   pub untouched : f.first ≡ false → (v : ℕ) → v < count_in f → get_or run.lists.touched.items v false ≡ false → value_at run.lists.old_now.items v ≡ value_at run.lists.new_now.items v

@@ -4,7 +4,7 @@ ghost use Rattle.std.specs.Prelude.{◌≡◌, ◌<◌, ◌^◌, Bool, List, len
 ghost use Rattle.graph_model.specs.GraphData.{GraphData};
 ghost use Rattle.vertex_lang.specs.declared.arc.Arc.{Arc};
 ghost use Rattle.vertex_lang.specs.Arcs.{IsArc};
-ghost use Rattle.round_kernel.specs.Counts.{AreBoth, AreCounted};
+ghost use Rattle.round_kernel.specs.Counts.{AreBoth, AreCounted, ArePlain};
 ghost use Rattle.round_kernel.specs.RowLists.{AreRows};
 ghost use Rattle.round_kernel.specs.Sides.{arcs_in, IsTurned};
 
@@ -16,7 +16,7 @@ use surge_outside::NoMemory;
 use vertex_lang::Arc;
 
 /// How many arcs leave each node in the view before and in the new one. Where the message doesn't depend on it, any numbers.
-#[derive(Drop)]
+#[derive(Debug, Drop)]
 pub(crate) struct Degrees {
     pub(crate) old: Vec<u64>,
     pub(crate) new: Vec<u64>,
@@ -47,19 +47,22 @@ impl Degrees {
     }
 
     /// The same; but where those of the view before are known, those of the new one are counted anew for the tails of these
-    /// arcs alone, among which are all that are in one of the two views alone.
+    /// arcs alone, among which are all that are in one of the two views alone; and where they aren't asked for, any that are at
+    /// hand are taken.
     pub(crate) fn turned(
         alloc: Global,
         asked: bool,
         graph: &Graph,
         rows: &Rows,
         known: Option<Vec<u64>>,
+        spare: Option<Degrees>,
         old: &[bool],
         new: &[bool],
         turned: &[Arc],
     ) -> Result<Degrees, NoMemory>
         requires rows { AreRows graph.now rows.now }
         requires known { IfSome known (λ d. AreCounted graph.now rows.now.by_head old.now d.items) }
+        requires spare { IfSome spare (ArePlain graph.now) }
         requires old { length old.now ≡ length graph.now.ends }
         requires new { length new.now ≡ length graph.now.ends }
         requires turned { All (IsArc graph.now) turned.now }
@@ -74,7 +77,29 @@ impl Degrees {
                     new: after,
                 })
             }
-            None => Degrees::counted(alloc, asked, graph, rows, old, new),
+            None => Degrees::at_hand(alloc, asked, graph, rows, spare, old, new),
+        }
+    }
+
+    // Counted where they are asked for; else those that are at hand.
+    fn at_hand(
+        alloc: Global,
+        asked: bool,
+        graph: &Graph,
+        rows: &Rows,
+        spare: Option<Degrees>,
+        old: &[bool],
+        new: &[bool],
+    ) -> Result<Degrees, NoMemory>
+        requires rows { AreRows graph.now rows.now }
+        requires spare { IfSome spare (ArePlain graph.now) }
+        requires old { length old.now ≡ length graph.now.ends }
+        requires new { length new.now ≡ length graph.now.ends }
+        ensures { IfOk result (AreBoth asked graph.now rows.now.by_head old.now new.now) }
+    {
+        match spare {
+            Some(degrees) if !asked => Ok(degrees),
+            _ => Degrees::counted(alloc, asked, graph, rows, old, new),
         }
     }
 

@@ -1,10 +1,11 @@
 //! What is kept of a view.
 
-ghost use Rattle.std.specs.Prelude.{◌≡◌, ◌<◌, ◌-◌, [], get_or, IfOk};
+ghost use Rattle.std.specs.Prelude.{◌≡◌, ◌<◌, ◌-◌, [], get_or, IfOk, None};
 
 use crate::chained::ChainedLists;
 use graph_model::{NodeNo, Val};
 use std::alloc::Global;
+use std::rc::Rc;
 use surge_outside::{List, NoMemory};
 
 /// A node, and the value that it changed to.
@@ -21,8 +22,9 @@ pub struct Change {
 pub struct History {
     pub changes: ChainedLists<Change>,
     pub marks: ChainedLists<NodeNo>,
-    /// The value with which each node starts, which is the same in all views; empty where no view was stepped yet.
-    pub starts: List<Val>,
+    /// The value with which each node starts, which is the same in all views, so that their histories share it; nothing where no
+    /// view was stepped yet.
+    pub starts: Option<Rc<List<Val>>>,
 }
 
 impl History {
@@ -30,12 +32,12 @@ impl History {
     pub(crate) fn new(alloc: Global) -> History
         ensures changes { result.changes ≡ [] }
         ensures marks { result.marks ≡ [] }
-        ensures starts { result.starts ≡ [] }
+        ensures starts { result.starts ≡ None }
     {
         History {
             changes: ChainedLists::new(alloc),
             marks: ChainedLists::new(alloc),
-            starts: List::new(alloc),
+            starts: None,
         }
     }
 
@@ -54,11 +56,10 @@ impl History {
             with_more(other.marks.size()),
             with_more(other.marks.len()),
         )?;
-        let starts = List::new(alloc);
         Ok(History {
             changes,
             marks,
-            starts,
+            starts: None,
         })
     }
 

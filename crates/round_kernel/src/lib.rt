@@ -24,6 +24,7 @@ mod rows;
 mod sent;
 mod sorted;
 mod span;
+mod spare;
 mod step;
 mod tails;
 mod tally;

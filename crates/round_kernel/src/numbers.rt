@@ -128,7 +128,7 @@ fn number_with_step(graph: &Graph, column: u32, numbers: &[i64], edges: &[bool],
 }
 
 /// What comes of arcs that bring the numbers of their tails. Where they are added up, the compiler leaves out the least and the
-/// greatest, for which nobody asks then.
+/// greatest, for which nobody asks then, and where the least is gathered the greatest.
 pub(crate) fn tally_tails(kind: Gather, numbers: &[i64], tails: &[NodeNo]) -> Tally
     requires few { length tails.now < 2 ^ 32 }
     requires tails { All (λ t. t.0 < length numbers.now) tails.now }
@@ -136,6 +136,7 @@ pub(crate) fn tally_tails(kind: Gather, numbers: &[i64], tails: &[NodeNo]) -> Ta
 {
     match kind {
         Gather::Sum => span_of_tails(numbers, tails).tally(Gather::Sum),
+        Gather::Min => span_of_tails(numbers, tails).tally(Gather::Min),
         _ => span_of_tails(numbers, tails).tally(kind),
     }
 }
@@ -153,17 +154,30 @@ fn span_of_tails(numbers: &[i64], tails: &[NodeNo]) -> Span
     span
 }
 
-/// What comes of arcs that bring the number of their tail and their own number added.
+/// What comes of arcs that bring the number of their tail and their own number added. Where the least is gathered, the greatest
+/// is left out in the same way.
 pub(crate) fn tally_links(kind: Gather, numbers: &[i64], links: &[Link]) -> Tally
     requires few { length links.now < 2 ^ 32 }
     requires tails { All (λ l. l.tail.0 < length numbers.now) links.now }
     ensures { result ≡ tally_of kind (sent_over numbers.now links.now) }
 {
+    match kind {
+        Gather::Min => span_of_links(numbers, links).tally(Gather::Min),
+        _ => span_of_links(numbers, links).tally(kind),
+    }
+}
+
+// The same, whichever way it is gathered.
+fn span_of_links(numbers: &[i64], links: &[Link]) -> Span
+    requires few { length links.now < 2 ^ 32 }
+    requires tails { All (λ l. l.tail.0 < length numbers.now) links.now }
+    ensures { IsSpan result (sent_over numbers.now links.now) }
+{
     let mut span = Span::new();
     for link in links {
         span = span.with(sum_of(numbers[link.tail.0 as usize], link.step));
     }
-    span.tally(kind)
+    span
 }
 
 // The number of the sum of two values. Of none it is none.

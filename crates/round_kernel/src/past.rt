@@ -8,11 +8,15 @@ ghost use Rattle.round_kernel.specs.Counts.{AreCounted};
 ghost use Rattle.round_kernel.specs.Listings.{AreLinks, AreTails, IsListed, IsPast};
 ghost use Rattle.round_kernel.specs.RowLists.{AreRows};
 ghost use Rattle.round_kernel.specs.Sides.{IsTurned};
+ghost use Rattle.round_kernel.specs.Spares.{IsSpare};
+ghost use Rattle.round_kernel.specs.Steps.{TellsAll};
 
 use crate::live::{Link, Live, renew_links, renew_tails};
 use crate::rows::Rows;
-use graph_model::{Graph, NodeNo};
+use crate::spare::Spare;
+use graph_model::{EdgeNo, Graph, NodeNo};
 use std::alloc::Global;
+use std::mem;
 use surge_outside::NoMemory;
 use vertex_lang::Arc;
 
@@ -27,12 +31,14 @@ pub(crate) enum Listed {
     Links(u32, Live<Link>),
 }
 
-/// The arcs of the view that was stepped last, and which edges are in it; and how many arcs leave each node, if that is kept.
+/// The arcs of the view that was stepped last, and which edges are in it; how many arcs leave each node, if that is kept; and
+/// lists that the next step may use again.
 #[derive(Debug, Drop)]
 pub(crate) struct Past {
     pub(crate) edges: Vec<bool>,
     pub(crate) listed: Listed,
     pub(crate) degrees: Option<Vec<u64>>,
+    pub(crate) spare: Spare,
 }
 
 impl Listed {
@@ -62,38 +68,60 @@ impl Past {
     pub(crate) fn nothing(alloc: Global) -> Past
         ensures { (graph : GraphData) (arcs : List Arc) → IsPast graph arcs result }
     {
+        Past::with(alloc, Spare::nothing(alloc))
+    }
+
+    // Of no view, with these lists.
+    fn with(alloc: Global, spare: Spare) -> Past
+        ensures { (graph : GraphData) (arcs : List Arc) → IsSpare graph spare → IsPast graph arcs result }
+    {
         Past {
             edges: Vec::new(alloc),
             listed: Listed::Nothing,
             degrees: None,
+            spare,
         }
     }
 
-    /// Of a view with these edges. Where memory is wanted nothing is kept.
+    /// Of a view with these edges, and with these lists. Its flags are these, if they are at hand. Where memory is wanted nothing is
+    /// kept.
     pub(crate) fn of(
         alloc: Global,
         edges: &[bool],
+        flags: Option<Vec<bool>>,
         listed: Listed,
         degrees: Option<Vec<u64>>,
+        spare: Spare,
     ) -> Past
+        requires { IfSome flags (λ f. f.items ≡ edges.now) }
         ensures { (graph : GraphData) (arcs : List Arc) → IsListed graph arcs edges.now listed
-            → IfSome degrees (λ d. AreCounted graph arcs edges.now d.items) → IsPast graph arcs result }
+            → IfSome degrees (λ d. AreCounted graph arcs edges.now d.items) → IsSpare graph spare → IsPast graph arcs result }
     {
         match listed {
-            Listed::Nothing => Past::nothing(alloc),
-            kept => match Vec::from_slice(alloc, edges) {
-                Ok(flags) => Past {
-                    edges: flags,
+            Listed::Nothing => Past::with(alloc, spare),
+            kept => match flags_of(alloc, edges, flags) {
+                Ok(own) => Past {
+                    edges: own,
                     listed: kept,
                     degrees,
+                    spare,
                 },
                 Err(_) => Past::nothing(alloc),
             },
         }
     }
 
+    /// Takes out the lists for the next step.
+    pub(crate) fn take_spare(&mut self, alloc: Global) -> Spare
+        ensures past { (graph : GraphData) (arcs : List Arc) → IsPast graph arcs self.old → IsPast graph arcs self.new }
+        ensures spare { (graph : GraphData) (arcs : List Arc) → IsPast graph arcs self.old → IsSpare graph result }
+    {
+        mem::replace(&mut self.spare, Spare::nothing(alloc))
+    }
+
     /// The arcs of another view, where those of this one are kept, and the arcs of all edges that are in one of the two
-    /// alone are given; and how many arcs leave each node in this one. The error is want of memory.
+    /// alone are given, and these edges; how many arcs leave each node in this one; and the flags of the other view, where those of
+    /// this one are kept. The error is want of memory.
     pub(crate) fn turned(
         self,
         alloc: Global,
@@ -102,38 +130,75 @@ impl Past {
         old: &[bool],
         new: &[bool],
         turned: &[Arc],
-    ) -> Result<(Listed, Option<Vec<u64>>), NoMemory>
+        edges_turned: &[EdgeNo],
+    ) -> Result<(Listed, Option<Vec<u64>>, Option<Vec<bool>>), NoMemory>
         requires rows { AreRows graph.now rows.now }
+        requires old { length old.now ≡ length graph.now.ends }
         requires new { length new.now ≡ length graph.now.ends }
         requires past { IsPast graph.now rows.now.by_head self }
         requires turned { All (IsArc graph.now) turned.now }
         requires all_turned { All (λ a. IsTurned old.now new.now a → Contains turned.now a) rows.now.by_head }
+        requires edges { All (λ e. e.0 < length graph.now.ends) edges_turned.now }
+        requires all_edges { TellsAll old.now new.now edges_turned.now }
         ensures listed { IfOk result (λ r. IsListed graph.now rows.now.by_head new.now r.0) }
         ensures counted { IfOk result (λ r. IfSome r.1 (λ d. AreCounted graph.now rows.now.by_head old.now d.items)) }
+        ensures flags { IfOk result (λ r. IfSome r.2 (λ f. f.items ≡ new.now)) }
     {
         let Past {
             edges,
             listed,
             degrees,
+            spare: _,
         } = self;
         if !is_same(&edges, old) {
-            return Ok((Listed::Nothing, None));
+            return Ok((Listed::Nothing, None, None));
         }
         let heads = heads_of(alloc, graph.node_count() as usize, turned)?;
+        let flags = renewed(edges, old, new, edges_turned);
         match listed {
-            Listed::Nothing => Ok((Listed::Nothing, degrees)),
+            Listed::Nothing => Ok((Listed::Nothing, degrees, Some(flags))),
             Listed::Tails(tails) => {
                 let mut live = tails;
                 renew_tails(&mut live, graph, rows, new, &heads);
-                Ok((Listed::Tails(live), degrees))
+                Ok((Listed::Tails(live), degrees, Some(flags)))
             }
             Listed::Links(column, links) => {
                 let mut live = links;
                 renew_links(&mut live, graph, rows, new, column, &heads);
-                Ok((Listed::Links(column, live), degrees))
+                Ok((Listed::Links(column, live), degrees, Some(flags)))
             }
         }
     }
+}
+
+// The flags of a view: these, if they are at hand, and else a copy.
+fn flags_of(alloc: Global, edges: &[bool], flags: Option<Vec<bool>>) -> Result<Vec<bool>, NoMemory>
+    requires { IfSome flags (λ f. f.items ≡ edges.now) }
+    ensures { IfOk result (λ f. f.items ≡ edges.now) }
+{
+    match flags {
+        Some(own) => Ok(own),
+        None => {
+            let copy = Vec::from_slice(alloc, edges)?;
+            Ok(copy)
+        }
+    }
+}
+
+// The flags of a view, given those of the view before, by turning those of the edges that are in one of the two alone.
+fn renewed(kept: Vec<bool>, _old: &[bool], new: &[bool], turned: &[EdgeNo]) -> Vec<bool>
+    requires kept { kept.items ≡ _old.now }
+    requires size { length _old.now ≡ length new.now }
+    requires within { All (λ e. e.0 < length new.now) turned.now }
+    requires tells { TellsAll _old.now new.now turned.now }
+    ensures { result.items ≡ new.now }
+{
+    let mut flags = kept;
+    for edge in turned {
+        let place = edge.0 as usize;
+        flags[place] = new[place];
+    }
+    flags
 }
 
 // Whether these are the same flags.

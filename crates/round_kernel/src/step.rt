@@ -23,6 +23,7 @@ use crate::past::{Listed, Past};
 use crate::round::{Frame, Lists, go_on, run_round};
 use crate::rows::Rows;
 use crate::sorted::in_node_order;
+use crate::spare::{Spare, kept_of};
 use crate::tally::Kept;
 use crate::values::{all_changes, changes_between};
 use crate::visit::Made;
@@ -74,6 +75,7 @@ pub fn first_step<U: Updater>(
     let by_degree = names_outdeg(&program.send);
     rows.past = Past::nothing(alloc);
     let degrees = Degrees::counted(alloc, by_degree, graph, rows, &none, edges)?;
+    let kept = kept_of(alloc, Vec::new(alloc), graph.node_count())?;
     let frame = Frame {
         program,
         graph,
@@ -87,9 +89,10 @@ pub fn first_step<U: Updater>(
         limit: limit_of(rounds),
     };
     let counted = degrees.kept(alloc, by_degree)?;
-    let run = run_rounds(alloc, frame, degrees, Listed::Nothing, updater)?;
+    let run = run_rounds(alloc, frame, degrees, Listed::Nothing, kept, updater)?;
     let change = all_changes(alloc, &run.lists.new_now)?;
-    rows.past = Past::of(alloc, edges, run.listed, counted);
+    let spare = Spare::of(run.kept, by_degree, run.lists.degrees());
+    rows.past = Past::of(alloc, edges, None, run.listed, counted, spare);
     Ok(Stepped {
         outcome: outcome(&run.history, rounds),
         history: run.history,
@@ -133,14 +136,25 @@ pub fn next_step<U: Updater>(
     nodes_are_few(graph);
     let arcs = arcs_of(alloc, graph, program.along, turned)?;
     let by_degree = names_outdeg(&program.send);
-    let past = mem::replace(&mut rows.past, Past::nothing(alloc));
-    let (listed, known) = past.turned(alloc, graph, rows, old, new, arcs.as_slice())?;
+    let mut past = mem::replace(&mut rows.past, Past::nothing(alloc));
+    let spare = past.take_spare(alloc);
+    let kept = kept_of(alloc, spare.kept, graph.node_count())?;
+    let (listed, known, flags) = past.turned(
+        alloc,
+        graph,
+        rows,
+        old,
+        new,
+        arcs.as_slice(),
+        turned,
+    )?;
     let degrees = Degrees::turned(
         alloc,
         by_degree,
         graph,
         rows,
         known,
+        spare.degrees,
         old,
         new,
         arcs.as_slice(),
@@ -158,14 +172,15 @@ pub fn next_step<U: Updater>(
         limit: limit_of(rounds),
     };
     let counted = degrees.kept(alloc, by_degree)?;
-    let run = run_rounds(alloc, frame, degrees, listed, updater)?;
+    let run = run_rounds(alloc, frame, degrees, listed, kept, updater)?;
     let change = changes_between(
         alloc,
         &run.lists.touched,
         &run.lists.old_now,
         &run.lists.new_now,
     )?;
-    rows.past = Past::of(alloc, new, run.listed, counted);
+    let spare = Spare::of(run.kept, by_degree, run.lists.degrees());
+    rows.past = Past::of(alloc, new, flags, run.listed, counted, spare);
     Ok(Stepped {
         outcome: outcome(&run.history, rounds),
         history: run.history,
@@ -180,6 +195,7 @@ struct Run {
     history: History,
     lists: Lists,
     listed: Listed,
+    kept: Vec<Kept>,
     work: u64,
 }
 
@@ -189,18 +205,19 @@ fn run_rounds<U: Updater>(
     frame: Frame<'_>,
     degrees: Degrees,
     listed: Listed,
+    mut kept: Vec<Kept>,
     updater: &mut U,
 ) -> Result<Run, NoMemory>
     requires frame { IsFrame U.answer frame frame.limit }
     requires limit { frame.limit ≤ 1_000_000 }
     requires degrees { AreBoth frame.by_degree frame.graph.now frame.rows.now.by_head frame.old.now frame.new.now degrees }
     requires listed { IsListed frame.graph.now frame.rows.now.by_head frame.new.now listed }
+    requires kept { length kept.items ≡ count_in frame }
     ensures listed { IfOk result (λ run. IsListed frame.entry.graph.now frame.entry.rows.now.by_head frame.entry.new.now run.listed) }
     ensures run { IfOk result (IsRun U.answer frame.entry) }
     ensures calls { IfOk result (λ run. U.calls updater.new ≡ U.calls updater.old + run.work) }
 {
     let mut lists = Lists::new(alloc, frame, degrees, updater)?;
-    let mut kept = vec![in alloc; Kept::new(); frame.graph.node_count() as usize]?;
     let mut aids = Aids::new(alloc, frame, &lists, listed, updater)?;
     let mut history = History::beside(alloc, frame.history)?;
     let mut made = Made::new(alloc, frame.graph.node_count())?;
@@ -221,11 +238,12 @@ fn run_rounds<U: Updater>(
         round += 1;
     }
     trim(&mut history.changes);
-    history.starts = List::from_vec(mem::replace(&mut lists.starts, Vec::new(alloc)));
+    history.starts = Some(lists.starts.clone()?);
     Ok(Run {
         history,
         lists,
         listed: aids.feed.listed(frame, round, updater),
+        kept,
         work,
     })
 }
@@ -297,8 +315,7 @@ fn run_one<U: Updater>(
     Ok(work)
 }
 
-// Adds what a round gave. The marks of round 0 are not kept. The list of changes may be moved out of what was made, and another one
-// with as much room put in its place.
+// Adds what a round gave. The marks of round 0 are not kept.
 fn add_round(
     alloc: Global,
     history: &mut History,
@@ -312,31 +329,28 @@ fn add_round(
     ensures few { made.new.few ≡ made.old.few }
     ensures stirred { made.new.stirred ≡ made.old.stirred }
 {
-    add_changes(alloc, &mut history.changes, made, count)?;
+    add_list(alloc, &mut history.changes, &mut made.changes, count)?;
     if round == 0 {
         return Ok(());
     }
-    history.marks.push(made.marks.as_slice())
+    add_list(alloc, &mut history.marks, &mut made.marks, count)
 }
 
-// Adds the changes of a round. A long list, which uses more than half of the room that it was given, is moved in. A short one is
-// copied, so that it takes no memory of its own.
-fn add_changes(
+// Adds a list of a round. A long one, which uses more than half of the room that it was given, is moved in, and another one with
+// as much room is put in its place. A short one is copied, so that it takes no memory of its own.
+fn add_list<T: Copy + Drop>(
     alloc: Global,
-    changes: &mut ChainedLists<Change>,
-    made: &mut Made,
+    lists: &mut ChainedLists<T>,
+    list: &mut List<T>,
     count: u32,
 ) -> Result<(), NoMemory>
-    ensures changes { OnOk result (changes.new ≡ changes.old ++ made.old.changes ∷ []) }
-    ensures marks { made.new.marks ≡ made.old.marks }
-    ensures few { made.new.few ≡ made.old.few }
-    ensures stirred { made.new.stirred ≡ made.old.stirred }
+    ensures { OnOk result (lists.new ≡ lists.old ++ list.old ∷ []) }
 {
-    if made.changes.len() <= most_copied(count) {
-        return changes.push(made.changes.as_slice());
+    if list.len() <= most_copied(count) {
+        return lists.push(list.as_slice());
     }
-    let list = made.take_changes(alloc, count)?;
-    changes.push_owned(list)
+    let none = List::from_vec(Vec::with_capacity(alloc, count as usize)?);
+    lists.push_owned(mem::replace(list, none))
 }
 
 // How many changes a short list has at most, given the number of nodes: half as many, or a thousand where that is more.

@@ -20,7 +20,7 @@ pub(crate) struct Tally {
 }
 
 /// What is kept of the messages that a node got: enough to tell most of them from others.
-#[derive(Clone, Copy)]
+#[derive(Clone, Copy, Debug)]
 pub(crate) struct Kept {
     /// Their sum, brought into the range of values.
     pub(crate) total: i64,

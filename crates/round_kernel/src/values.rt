@@ -1,6 +1,6 @@
 //! The values of both views, round by round.
 
-ghost use Rattle.std.specs.Prelude.{◌≡◌, ◌<◌, ◌^◌, not, true, false, ℕ, List, length, map, get_or, slice_set, All, IfOk, IsTrue};
+ghost use Rattle.std.specs.Prelude.{◌≡◌, ◌<◌, ◌^◌, not, true, false, ℕ, List, length, map, get_or, slice_set, All, IfOk, IfSome, IsTrue};
 ghost use Rattle.graph_model.specs.declared.value.Val.{Val};
 ghost use Rattle.vertex_lang.specs.Leaves.{IsChecked};
 ghost use Rattle.vertex_lang.specs.Expressions.{start_of};
@@ -19,6 +19,7 @@ use crate::numbers::number_of;
 use crate::sent::{Form, form_of, send_by};
 use graph_model::{EdgeNo, Graph, NodeNo, Val};
 use std::alloc::Global;
+use std::rc::Rc;
 use surge_outside::{List, NoMemory};
 use vertex_lang::{Arc, Program, ignores_edge, start};
 
@@ -44,17 +45,21 @@ pub(crate) fn known_starts(
     alloc: Global,
     program: &Program,
     graph: &Graph,
-    known: &[Val],
-) -> Result<Vec<Val>, NoMemory>
+    known: &Option<Rc<List<Val>>>,
+) -> Result<Rc<List<Val>>, NoMemory>
     requires checked { IsChecked program.now graph.now }
-    requires known { AreStarts program.now graph.now known.now }
-    ensures { IfOk result (λ v. v.items ≡ map (start_of program.now graph.now) (nodes_of graph.now)) }
+    requires known { IfSome known.now (λ s. AreStarts program.now graph.now s.value) }
+    ensures { IfOk result (λ v. v.value ≡ map (start_of program.now graph.now) (nodes_of graph.now)) }
 {
-    if known.is_empty() {
-        return start_values(alloc, program, graph);
+    if let Some(starts) = known {
+        let shared = starts.clone()?;
+        return Ok(shared);
     }
-    let starts = Vec::from_slice(alloc, known)?;
-    Ok(starts)
+    let starts = List::from_vec(start_values(alloc, program, graph)?);
+    match Rc::new(alloc, starts) {
+        Ok(shared) => Ok(shared),
+        Err(_) => Err(NoMemory),
+    }
 }
 
 /// How many arcs leave each node, of those whose edge is in a view.
@@ -192,7 +197,54 @@ pub(crate) fn apply(
     ensures only { IsTrue result → IsTrue alike }
     ensures sent { AreSent result program.now graph.now degrees.now now.new sent.new }
 {
-    let form = form_of(program);
+    match form_of(program) {
+        Form::Value => apply_by(
+            Form::Value,
+            program,
+            graph,
+            alike,
+            degrees,
+            now,
+            sent,
+            changes,
+        ),
+        Form::Plus(number) => apply_by(
+            Form::Plus(number),
+            program,
+            graph,
+            alike,
+            degrees,
+            now,
+            sent,
+            changes,
+        ),
+        form => apply_by(form, program, graph, alike, degrees, now, sent, changes),
+    }
+}
+
+// The same, given the form of the message.
+fn apply_by(
+    form: Form,
+    program: &Program,
+    graph: &Graph,
+    alike: bool,
+    degrees: &[u64],
+    now: &mut [Val],
+    sent: &mut [i64],
+    changes: &[Change],
+) -> bool
+    requires form { HasForm program.now form }
+    requires within { All (λ c. c.node.0 < length now.old) changes.now }
+    requires checked { IsChecked program.now graph.now }
+    requires size { length now.old ≡ length graph.now.ids }
+    requires degrees_size { length degrees.now ≡ length graph.now.ids }
+    requires small { (u : ℕ) → u < length graph.now.ids → get_or degrees.now u 0 < 2 ^ 32 }
+    requires keeps { MayKeep alike program.now graph.now }
+    requires sent { AreSent alike program.now graph.now degrees.now now.old sent.old }
+    ensures values { (after : List Val) → length after ≡ length now.old → HasChanges (length now.old) now.old after changes.now → now.new ≡ after }
+    ensures only { IsTrue result → IsTrue alike }
+    ensures sent { AreSent result program.now graph.now degrees.now now.new sent.new }
+{
     let mut kept = alike;
     for change in changes {
         kept = change_one(form, program, graph, kept, degrees, now, sent, *change);
@@ -281,12 +333,37 @@ pub(crate) fn send_all(
     ensures only { IfOk result (λ r. IsTrue r.0 → IsTrue alike) }
     ensures sent { IfOk result (λ r. AreSent r.0 program.now graph.now degrees.now values.now r.1.items) }
 {
-    let mut sent = Vec::new(alloc);
     if !alike {
-        return Ok((false, sent));
+        return Ok((false, Vec::new(alloc)));
     }
-    let form = form_of(program);
+    match form_of(program) {
+        Form::Value => send_all_by(alloc, Form::Value, program, graph, values, degrees),
+        Form::Plus(number) => {
+            send_all_by(alloc, Form::Plus(number), program, graph, values, degrees)
+        }
+        form => send_all_by(alloc, form, program, graph, values, degrees),
+    }
+}
+
+// The same where they may be kept, given the form of the message.
+fn send_all_by(
+    alloc: Global,
+    form: Form,
+    program: &Program,
+    graph: &Graph,
+    values: &[Val],
+    degrees: &[u64],
+) -> Result<(bool, Vec<i64>), NoMemory>
+    requires form { HasForm program.now form }
+    requires checked { IsChecked program.now graph.now }
+    requires size { length values.now ≡ length graph.now.ids }
+    requires degrees_size { length degrees.now ≡ length graph.now.ids }
+    requires small { (u : ℕ) → u < length graph.now.ids → get_or degrees.now u 0 < 2 ^ 32 }
+    requires keeps { MayKeep true program.now graph.now }
+    ensures { IfOk result (λ r. AreSent r.0 program.now graph.now degrees.now values.now r.1.items) }
+{
     let count = graph.node_count();
+    let mut sent = Vec::with_capacity(alloc, count as usize)?;
     for node in 0..count {
         let place = node as usize;
         let message = send_by(

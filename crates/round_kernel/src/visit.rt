@@ -23,7 +23,6 @@ use crate::tally::{Kept, Tally};
 use crate::told::Movers;
 use graph_model::{Graph, NodeNo, Val};
 use std::alloc::Global;
-use std::mem;
 use surge_outside::{List, NoMemory};
 use vertex_lang::{Expr, Program, Updater};
 
@@ -80,21 +79,6 @@ impl Made {
     {
         self.marks.clear();
         self.changes.clear();
-    }
-
-    /// Takes the changes out and leaves none, with room for one of each node, of so many. The error is want of memory.
-    pub(crate) fn take_changes(
-        &mut self,
-        alloc: Global,
-        count: u32,
-    ) -> Result<List<Change>, NoMemory>
-        ensures changes { IfOk result (λ changes. changes ≡ self.old.changes) }
-        ensures marks { self.new.marks ≡ self.old.marks }
-        ensures few { self.new.few ≡ self.old.few }
-        ensures stirred { self.new.stirred ≡ self.old.stirred }
-    {
-        let none = List::from_vec(Vec::with_capacity(alloc, count as usize)?);
-        Ok(mem::replace(&mut self.changes, none))
     }
 }
 

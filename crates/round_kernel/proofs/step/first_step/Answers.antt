@@ -1,10 +1,12 @@
-use Rattle.std.proofs.Common.{◌∙◌, Bool, List, length, sym, ap, arith}
+use Rattle.std.proofs.Common.{◌∙◌, Bool, List, length, sym, ap, subst, arith}
 use Rattle.std.proofs.lemmas.Bool.{true≢false}
 use Rattle.std.proofs.lemmas.List.{length-replicate}
 use Rattle.std.proofs.lemmas.List.Elements.{All-nil}
 use Rattle.graph_model.specs.declared.value.Val.{Val}
 use Rattle.vertex_lang.specs.Arcs.{IsArc}
 use Rattle.vertex_lang.specs.RoundLaws.{length-lone}
+use Rattle.round_kernel.specs.declared.degrees.Degrees.{Degrees}
+use Rattle.round_kernel.specs.Counts.{ArePlain}
 use Rattle.round_kernel.specs.RowLaws.{with-past}
 use Rattle.round_kernel.specs.Sides.{arcs_in}
 use Rattle.round_kernel.proofs.Beginning.{none-history}
@@ -45,4 +47,4 @@ returns-clause-outcome g c =
     c.args.rounds (sym c.limit_of.ensures) (omega (arith, c.requires.some, c.limit_of.ensures))
 
 pub returns-clause-rows : goal.returns-clause-rows
-returns-clause-rows g c = with-past c.args.graph.now c.args.rows.now c.of.result c.requires.rows (c.of.ensures c.args.graph.now c.args.rows.now.by_head c.in_ok-run.ensures.listed (c.in_ok-counted.ensures c.args.graph.now c.args.rows.now.by_head _ c.args.edges.now c.in_ok-degrees.ensures))
+returns-clause-rows g c = with-past c.args.graph.now c.args.rows.now c.of.result c.requires.rows (c.of.ensures c.args.graph.now c.args.rows.now.by_head c.in_ok-run.ensures.listed (c.in_ok-counted.ensures c.args.graph.now c.args.rows.now.by_head _ c.args.edges.now c.in_ok-degrees.ensures) (c.of-spare.ensures c.args.graph.now (subst (λ (d : Degrees). ArePlain c.args.graph.now d) (sym c.degrees.ensures) c.in_ok-run.ensures.run.plain)))

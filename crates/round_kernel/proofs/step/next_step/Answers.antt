@@ -8,6 +8,8 @@ use Rattle.vertex_lang.specs.Rounds.{value_at}
 use Rattle.round_kernel.specs.Histories.{IsHistory}
 use Rattle.round_kernel.specs.declared.past.Past.{Past}
 use Rattle.round_kernel.specs.Listings.{IsPast}
+use Rattle.round_kernel.specs.declared.degrees.Degrees.{Degrees}
+use Rattle.round_kernel.specs.Counts.{ArePlain}
 use Rattle.round_kernel.specs.RowLaws.{with-past}
 use Rattle.round_kernel.specs.Sides.{arcs_in}
 use Rattle.round_kernel.proofs.Beginning.{turned-told}
@@ -85,4 +87,4 @@ returns-clause-outcome g c =
     c.args.rounds (sym c.limit_of.ensures) (omega (arith, c.requires.some, c.limit_of.ensures))
 
 pub returns-clause-rows : goal.returns-clause-rows
-returns-clause-rows g c = with-past c.args.graph.now c.args.rows.now c.of.result c.requires.rows (c.of.ensures c.args.graph.now c.args.rows.now.by_head c.in_ok-run.ensures.listed (c.in_ok-counted.ensures c.args.graph.now c.args.rows.now.by_head c.args.old.now c.args.new.now c.in_ok-degrees.ensures))
+returns-clause-rows g c = with-past c.args.graph.now c.args.rows.now c.of.result c.requires.rows (c.of.ensures c.args.graph.now c.args.rows.now.by_head c.in_ok-run.ensures.listed (c.in_ok-counted.ensures c.args.graph.now c.args.rows.now.by_head c.args.old.now c.args.new.now c.in_ok-degrees.ensures) (c.of-spare.ensures c.args.graph.now (subst (λ (d : Degrees). ArePlain c.args.graph.now d) (sym c.degrees.ensures) c.in_ok-run.ensures.run.plain)))

@@ -1,7 +1,6 @@
-use Rattle.std.proofs.Common.{◌≡◌, ◌∙◌, ◌+◌, ◌-◌, ℕ, List, Vec, Global, length, get_or, ap, sym, subst, inr, arith}
-use Rattle.graph_model.specs.declared.value.Val.{Val}
+use Rattle.std.proofs.Common.{◌≡◌, ◌∙◌, ◌+◌, ◌-◌, ℕ, List, length, get_or, ap, refl, sym, subst, arith}
 use Rattle.std.specs.Vec.{with_items}
-use Rattle.std.proofs.lemmas.List.{length-replicate, with_items_is}
+use Rattle.std.proofs.lemmas.List.{with_items_is}
 use Rattle.lone_work.specs.StepLaws.{no-round}
 use Rattle.round_kernel.specs.declared.tally.Kept.{Kept}
 use Rattle.round_kernel.specs.Tallies.{kept_of, no_tally}
@@ -18,7 +17,7 @@ loop-round-init g c = record {
   rounds = rounds-none g.U.Updater.answer c.args.frame c.in_ok-history.history c.in_ok-history.ensures.changes c.in_ok-history.ensures.marks;
   at = c.in_ok-lists.ensures.at;
   idle = c.in_ok-lists.ensures.idle;
-  kept_size = ap (λ (ks : List Kept). length ks) (c.in_ok-kept.ensures.items_if_clones_equal (λ y e. e)) ∙ length-replicate _ _ ∙ c.node_count.ensures.count;
+  kept_size = c.requires.kept;
   kept = λ later. absurd (omega (arith, later));
   stirred = λ later. absurd (omega (arith, later));
   aided = c.in_ok-aids.ensures.aided;
@@ -64,12 +63,13 @@ returns-clause-run g c =
       | else-loop-round-test w ↦ end-all answer f c.requires.frame r h u.rounds (omega arith)
     ] in
     record {
-      history = run-history answer f c.requires.frame r h u.rounds u.within end c.trim.new.changes c.trim.ensures.places _ (inr (c.from_vec.ensures ∙ ap (λ (v : Vec Val Global). v.items) c.replace.ensures.value ∙ u.at.starts));
+      history = run-history answer f c.requires.frame r h u.rounds u.within end _ c.trim.ensures.places refl (c.in_ok-clone.ensures.cases ∙ u.at.starts);
       few = omega (arith, c.trim.ensures.few, u.rounds.size, u.within);
       last = c.trim.ensures.last;
       work_is = u.work ∙ run-work answer f c.requires.frame r h u.rounds u.within end;
       new_values = u.at.new_now.values_are ∙ run-new answer f c.requires.frame r h u.rounds u.within end;
       old_values = λ one. (u.at.old_now one).values_are ∙ run-old answer f c.requires.frame r h u.rounds u.within end one;
+      plain = record { before = record { size = u.at.old_sized.degrees_size; small = u.at.old_sized.degrees_small }; after = record { size = u.at.new_now.sized.degrees_size; small = u.at.new_now.sized.degrees_small } };
       touched_size = u.at.touched_size;
       untouched = λ one v low off. untouched-same answer f r c.loop-round.lists u.at one v low off;
     }

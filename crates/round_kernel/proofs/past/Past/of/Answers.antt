@@ -1,7 +1,7 @@
 use Rattle.round_kernel.proofs.past.Past.of.Goals as goal
 
 pub returns-in-Nothing : goal.returns-in-Nothing
-returns-in-Nothing c = λ graph arcs is counted. c.nothing.ensures graph arcs
+returns-in-Nothing c = λ graph arcs is counted spare. c.with.ensures graph arcs spare
 
 pub returns-in-Err : goal.returns-in-Err
-returns-in-Err c = λ graph arcs is counted. c.nothing-in-Err.ensures graph arcs
+returns-in-Err c = λ graph arcs is counted spare. c.nothing.ensures graph arcs

@@ -15,13 +15,13 @@ use Rattle.round_kernel.proofs.Turning.{told-grouped}
 use Rattle.round_kernel.proofs.round.Lists.new.Goals as goal
 
 pub send_all-requires-clause-size : goal.send_all-requires-clause-size
-send_all-requires-clause-size g c = ap (λ (vs : List Val). length vs) (c.deref-4.ensures.value ∙ c.in_ok-starts.ensures) ∙ length-map-range_with_len (start_of c.args.frame.program.now c.args.frame.graph.now) 0 (count_in c.args.frame)
+send_all-requires-clause-size g c = ap (λ (vs : List Val). length vs) (c.as_slice-values.ensures ∙ c.deref.ensures ∙ c.in_ok-starts.ensures) ∙ length-map-range_with_len (start_of c.args.frame.program.now c.args.frame.graph.now) 0 (count_in c.args.frame)
 
 pub send_all-requires-clause-degrees_size : goal.send_all-requires-clause-degrees_size
-send_all-requires-clause-degrees_size g c = ap (λ (ds : List ℕ). length ds) c.deref-5.ensures.value ∙ c.requires.degrees.after.size
+send_all-requires-clause-degrees_size g c = ap (λ (ds : List ℕ). length ds) c.deref-2.ensures.value ∙ c.requires.degrees.after.size
 
 pub send_all-requires-clause-small : goal.send_all-requires-clause-small
-send_all-requires-clause-small g c = λ u low. subst (λ (ds : List ℕ). get_or ds u 0 < 2 ^ 32) (sym c.deref-5.ensures.value) (c.requires.degrees.after.small u low)
+send_all-requires-clause-small g c = λ u low. subst (λ (ds : List ℕ). get_or ds u 0 < 2 ^ 32) (sym c.deref-2.ensures.value) (c.requires.degrees.after.small u low)
 
 pub returns-clause-at : goal.returns-clause-at
 returns-clause-at g c =
@@ -50,9 +50,9 @@ returns-clause-at g c =
     let touched : c.in_ok-touched.touched.items ≡ replicate n f.first = c.in_ok-touched.ensures.items_if_clones_equal (λ y e. e) in
     let marked : c.in_ok-marked.marked.items ≡ replicate n false = c.in_ok-marked.ensures.items_if_clones_equal (λ y e. e) in
     at-start g.U.Updater.answer f c.requires.frame lists c.in_ok-starts.ensures
-    (c.in_ok-old_now.ensures.items ∙ c.deref.ensures.value)
-    (c.in_ok-new_now.ensures.items ∙ c.deref-2.ensures.value)
-    (c.in_ok-new_before.ensures.items ∙ c.deref-3.ensures.value)
+    (c.in_ok-old_now.ensures.items ∙ c.as_slice-values.ensures ∙ c.deref.ensures)
+    (c.in_ok-new_now.ensures.items ∙ c.as_slice-values.ensures ∙ c.deref.ensures)
+    (c.in_ok-new_before.ensures.items ∙ c.as_slice-values.ensures ∙ c.deref.ensures)
     c.requires.degrees.before.size
     (elim (cases_Bool f.by_degree) [
       | inl t ↦ inr (c.requires.degrees.before.each t)
@@ -73,5 +73,5 @@ returns-clause-at g c =
     c.in_ok-watched.ensures.tails
     (told-grouped (λ (a : Arc). a.tail.0) f.graph.now f.rows.now.by_head f.turned.now f.first f.old.now f.new.now c.in_ok-turned.turned n count c.in_ok-turned.ensures.rows c.in_ok-turned.ensures.same c.requires.frame.arcs c.requires.frame.turned)
     (λ e. c.may_keep-may.ensures (c.in_ok-alike.ensures.only e))
-    (sent-at lists.alike f.program.now f.graph.now _ _ _ _ _ _ (sym c.deref-5.ensures.value) (sym c.deref-4.ensures.value) refl c.in_ok-alike.ensures.sent)
+    (sent-at lists.alike f.program.now f.graph.now _ _ _ _ _ _ (sym c.deref-2.ensures.value) (sym (c.as_slice-values.ensures ∙ c.deref.ensures)) refl c.in_ok-alike.ensures.sent)
     (subst (λ (k : ℕ). IsQueue k c.in_ok-queue.queue) count c.in_ok-queue.ensures.queue)

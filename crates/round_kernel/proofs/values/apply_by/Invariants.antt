@@ -4,7 +4,7 @@ use Rattle.graph_model.specs.declared.value.Val.{Val}
 use Rattle.vertex_lang.specs.Rounds.{value_at}
 use Rattle.round_kernel.specs.Histories.{AreChanged}
 use Rattle.round_kernel.specs.Sides.{AreSent}
-use Rattle.round_kernel.proofs.values.apply.Given as goal
+use Rattle.round_kernel.proofs.values.apply_by.Given as goal
 
 abbrev pub invariant-loop-change : goal.invariant-loop-change
 invariant-loop-change l = record {

@@ -2,7 +2,7 @@ use Rattle.std.proofs.Common.{◌≡◌, ◌<◌, ℕ, length, get_or}
 use Rattle.vertex_lang.specs.Expressions.{sent_by}
 use Rattle.vertex_lang.specs.Rounds.{value_at}
 use Rattle.round_kernel.specs.Codes.{number_at}
-use Rattle.round_kernel.proofs.values.send_all.Given as goal
+use Rattle.round_kernel.proofs.values.send_all_by.Given as goal
 
 abbrev pub invariant-loop-node : goal.invariant-loop-node
 invariant-loop-node l = record {

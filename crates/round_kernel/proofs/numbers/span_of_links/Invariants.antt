@@ -2,7 +2,7 @@ use Rattle.std.proofs.Common.{take}
 use Rattle.round_kernel.specs.Links.{sent_over}
 use Rattle.round_kernel.specs.Spans.{IsSpan, sums_of}
 use Rattle.round_kernel.specs.Tallies.{IsBounded}
-use Rattle.round_kernel.proofs.numbers.tally_links.Given as goal
+use Rattle.round_kernel.proofs.numbers.span_of_links.Given as goal
 
 abbrev pub invariant-loop-link : goal.invariant-loop-link
 invariant-loop-link l = record {

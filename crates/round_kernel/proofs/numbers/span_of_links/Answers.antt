@@ -8,7 +8,7 @@ use Rattle.round_kernel.specs.Links.{sent_over}
 use Rattle.round_kernel.specs.Codes.{number_at, value_in}
 use Rattle.round_kernel.specs.Spans.{IsSpan, with_message}
 use Rattle.round_kernel.proofs.Numbered.{sent-few, sent-more}
-use Rattle.round_kernel.proofs.numbers.tally_links.Goals as goal
+use Rattle.round_kernel.proofs.numbers.span_of_links.Goals as goal
 
 abbrev no_link : Link
 no_link = record { tail = record { 0 = 0 }; step = pos 0 }

@@ -4,7 +4,7 @@ use Rattle.graph_model.specs.declared.value.Val.TheVariants.{Nil}
 use Rattle.round_kernel.specs.declared.history.Change.{Change}
 use Rattle.round_kernel.specs.Histories.{AreChanged}
 use Rattle.round_kernel.proofs.Changing.{none-changed, one-changed, all-changed}
-use Rattle.round_kernel.proofs.values.apply.Goals as goal
+use Rattle.round_kernel.proofs.values.apply_by.Goals as goal
 
 abbrev no_change : Change
 no_change = record { node = record { 0 = 0 }; value = Nil }
