@@ -1,5 +1,5 @@
 -- The text of a view's table.
-use Rattle.std.specs.Prelude.{ℕ, ℤ, List, [], ◌∷◌, ◌++◌, codes, flat_map, get_or, sum_by, pos, ◌+ℤ◌}
+use Rattle.std.specs.Prelude.{ℕ, ℤ, List, [], ◌∷◌, ◌++◌, codes, drop, flat_map, get_or, take, sum_by, pos, ◌+ℤ◌}
 use Rattle.std.specs.Fmt.{decimal, signed_decimal}
 use Rattle.graph_model.specs.GraphData.{GraphData, id_of, nodes_by_id}
 use Rattle.graph_model.specs.declared.number.NodeNo.{NodeNo}
@@ -46,6 +46,10 @@ node_line graph values n = value_line (id_of graph n.0) (get_or values n.0 Nil)
 
 abbrev pub node_lines : GraphData → List Val → List ℕ
 node_lines graph values = flat_map (node_line graph values) (nodes_by_id graph.ids)
+
+-- the lines of the nodes from one place by rising id up to another
+abbrev pub lines_between : GraphData → List Val → (from upto : ℕ) → List ℕ
+lines_between graph values from upto = flat_map (node_line graph values) (drop from (take upto (nodes_by_id graph.ids)))
 
 -- a line for each node by rising id; none where a run that was to settle did not
 abbrev pub rows : GraphData → Outcome → List Val → List ℕ

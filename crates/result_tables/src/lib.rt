@@ -13,6 +13,7 @@ mod digits;
 mod entries;
 mod form;
 mod laws;
+mod lines;
 mod results;
 mod table;
 mod text;

@@ -1,47 +1,17 @@
 //! The text of a table, and the line that sums it up.
 
-ghost use Rattle.std.specs.Prelude.{◌≡◌, ◌++◌, ◌+◌, ◌≤◌, length, drop, OnOk, IfOk};
-ghost use Rattle.result_tables.specs.TableText.{IsTable, value_text, value_line, outcome_text, node_lines, rows, head_text, tail_text, totals_text, summary_tail, form_text};
+ghost use Rattle.std.specs.Prelude.{◌≡◌, ◌++◌, OnOk, IfOk};
+ghost use Rattle.result_tables.specs.TableText.{IsTable, outcome_text, rows, head_text, tail_text, totals_text, summary_tail, form_text};
 
-use crate::digits::{lay_digits, lay_signed, push_decimal};
+use crate::digits::push_decimal;
 use crate::form::Form;
+use crate::lines::push_values;
 use crate::table::Table;
 use crate::totals::push_totals;
-use graph_model::{Graph, Val};
+use graph_model::Graph;
 use std::alloc::Global;
 use surge_outside::NoMemory;
 use vertex_lang::Outcome;
-
-// Lays a value out before a place, and tells where it begins.
-fn lay_value(room: &mut [u8], end: usize, value: Val) -> usize
-    requires long { 21 ≤ end }
-    requires in_room { end ≤ length room.old }
-    ensures size { length room.new ≡ length room.old }
-    ensures within { result ≤ end }
-    ensures far { end ≤ result + 21 }
-    ensures text { drop result room.new ≡ value_text value ++ drop end room.old }
-{
-    match value {
-        Val::Nil => {
-            room[end - 1] = b'-';
-            end - 1
-        }
-        Val::Num(number) => lay_signed(room, end, number),
-    }
-}
-
-// Adds the line of a node with this id and value. The line is laid out from its end, in a room for 20 digits, a comma, a
-// sign, 20 digits and the byte that ends a line.
-fn push_value(text: &mut Vec<u8>, id: u64, value: Val) -> Result<(), NoMemory>
-    ensures { OnOk result (text.new.items ≡ text.old.items ++ value_line id value) }
-{
-    let mut room = [b'\n'; 43];
-    let comma = lay_value(&mut room, 42, value) - 1;
-    room[comma] = b',';
-    let start = lay_digits(&mut room, comma, id);
-    text.extend_from_slice(&room[start..])?;
-    Ok(())
-}
 
 // Adds how a run ended.
 fn push_outcome(text: &mut Vec<u8>, outcome: Outcome) -> Result<(), NoMemory>
@@ -61,18 +31,6 @@ fn push_outcome(text: &mut Vec<u8>, outcome: Outcome) -> Result<(), NoMemory>
             Ok(())
         }
     }
-}
-
-// Adds the line of each node by rising id.
-fn push_values(text: &mut Vec<u8>, graph: &Graph, values: &[Val]) -> Result<(), NoMemory>
-    requires { length values.now ≡ length graph.now.ids }
-    ensures { OnOk result (text.new.items ≡ text.old.items ++ node_lines graph.now values.now) }
-{
-    for i in 0..graph.node_count() {
-        let node = graph.by_id(i);
-        push_value(text, graph.id(node), values[node.0 as usize])?;
-    }
-    Ok(())
 }
 
 // Adds the lines of a table.
