@@ -61,7 +61,7 @@ fn lay_lines(room: &mut [u8], graph: &Graph, values: &[Val], from: u32, upto: u3
     start
 }
 
-/// Adds the line of each node by rising id. Up to 64 lines are laid out in one room, which is used again, and join the text
+/// Adds the line of each node by rising id. Room for lines of 16 bytes is made at once. Up to 64 lines are laid out in one room, which is used again, and join the text
 /// at once: a room and a copy for each line would take about a fifth more time.
 pub(crate) fn push_values(text: &mut Vec<u8>, graph: &Graph, values: &[Val]) -> Result<(), NoMemory>
     requires { length values.now ≡ length graph.now.ids }
@@ -69,6 +69,7 @@ pub(crate) fn push_values(text: &mut Vec<u8>, graph: &Graph, values: &[Val]) -> 
 {
     let mut room = [b'\n'; 2_752];
     let count = graph.node_count();
+    text.reserve(16 * count as usize)?;
     let mut done = 0;
     while done < count {
         let upto = count.min(done + 64);
