@@ -105,7 +105,7 @@ module _ (answer : Answer) (f : Frame) (frame : IsFrame answer f f.limit) where
       → length lists.marked.items ≡ count_in f
       → length lists.watched.items ≡ count_in f → All (λ a. get_or lists.watched.items a.tail.0 false ≡ true) f.turned.now
       → TellTurned (λ a. a.tail.0) f.graph.now f.rows.now.by_head f.first f.old.now f.new.now lists.turned
-      → MayKeep lists.alike f.program.now f.graph.now → AreSent lists.alike f.program.now f.graph.now lists.new_degrees.items lists.starts.value lists.new_sent.items
+      → MayKeep lists.alike f.program.now f.graph.now → AreSent lists.alike f.program.now f.graph.now lists.new_degrees.items lists.starts.value lists.new_sent
       → IsQueue (count_in f) lists.queue → StandAt answer f 0 (was_touched_at answer f 0) lists
   at-start lists es eon enn enb sod aod bod snd and bnd st at sp sm sw aw tt mk kn q =
       let old = at-first f.old.now lists.old_degrees.items lists.old_now.items frame.old_size sod aod bod (eon ∙ es) in
@@ -124,6 +124,6 @@ module _ (answer : Answer) (f : Frame) (frame : IsFrame answer f f.limit) where
         watched_are = λ one i d low t. All-contains (λ (a : Arc). get_or lists.watched.items a.tail.0 false ≡ true) f.turned.now (get_or f.rows.now.by_head i d) aw (frame.turned one i d low t);
         turned_are = tt;
         keeps = mk;
-        new_sent = subst (λ (vs : List Val). AreSent lists.alike f.program.now f.graph.now lists.new_degrees.items vs lists.new_sent.items) (sym enn) kn;
+        new_sent = subst (λ (vs : List Val). AreSent lists.alike f.program.now f.graph.now lists.new_degrees.items vs lists.new_sent) (sym enn) kn;
         queue = q;
       }

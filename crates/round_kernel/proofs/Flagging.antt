@@ -1,9 +1,9 @@
 -- What is told of the nodes at round 0 and one round on.
-use Rattle.std.proofs.Common.{◌≡◌, ◌∙◌, ◌<◌, ◌≤◌, ◌+◌, ◌-◌, ◌++◌, [], sym, ap, subst, refl, ℕ, Bool, true, false, List, length, get_or, take, arith, inl, inr}
+use Rattle.std.proofs.Common.{◌≡◌, ◌∙◌, ◌<◌, ◌+◌, ◌-◌, ◌++◌, [], sym, ap, subst, refl, ℕ, Bool, true, false, List, length, get_or, take, arith, inl, inr}
 use Rattle.std.specs.Prelude.{◌||◌, ◌==◌, ◌⊎◌, replicate}
-use Rattle.std.proofs.lemmas.Bool.{cases_lt, cases_eq, cases_Bool, eq-eqb, ne_eqb}
+use Rattle.std.proofs.lemmas.Bool.{cases_eq, cases_Bool, eq-eqb, ne_eqb}
 use Rattle.std.proofs.lemmas.List.Folds.{list_any-append, list_any_more}
-use Rattle.std.proofs.lemmas.List.{get_or-replicate, get_or_past, length-replicate}
+use Rattle.std.proofs.lemmas.List.{length-replicate}
 use Rattle.graph_model.specs.declared.value.Val.{Val}
 use Rattle.vertex_lang.specs.declared.arc.Arc.{Arc}
 use Rattle.vertex_lang.specs.Arcs.{outdeg}
@@ -18,7 +18,7 @@ use Rattle.round_kernel.specs.Frames.{AreStirred, IsFrame, IsQuiet, StandAt, cou
 use Rattle.round_kernel.specs.TurnedArcs.{TellTurned}
 use Rattle.round_kernel.specs.Histories.{is_changed, HasChanges}
 use Rattle.round_kernel.specs.Sides.{arcs_in}
-use Rattle.round_kernel.specs.Telling.{StandsTold, sent_in}
+use Rattle.round_kernel.specs.Telling.{StandsTold, sent_in, stamp}
 use Rattle.round_kernel.proofs.Brought.{sent-is}
 use Rattle.round_kernel.proofs.Waiting.{clash, or-first, or-right}
 use Rattle.round_kernel.proofs.Calm.{same-degree}
@@ -49,12 +49,6 @@ module _ (answer : Answer) (f : Frame) (r : ℕ) (touched : ℕ → Bool) (lists
 
 -- ---- round 0
 
-all-zero : (n u : ℕ) → ◌≡◌ {A = ℕ} (get_or (replicate n 0) u 0) 0
-all-zero n u = elim (cases_lt u n) [
-  | inl low ↦ get_or-replicate n u 0 0 low
-  | inr high ↦ get_or_past (replicate n 0) u 0 (omega (arith, high, length-replicate {A = ℕ} n 0))
-]
-
 pub told-start : (answer : Answer) (f : Frame) (touched : ℕ → Bool) (lists : Lists) → StandAt answer f 0 touched lists → (told : Told) (n : ℕ) → n ≡ count_in f
     → length told.apart.items ≡ count_in f → (f.first ≡ false → (u : ℕ) → u < count_in f → IsFlagged f lists u (get_or told.apart.items u false)) → told.moved.items ≡ replicate n 0
     → TellTurned (λ a. a.head.0) f.graph.now f.rows.now.by_head f.first f.old.now f.new.now told.turned → StandsTold answer f 0 told
@@ -62,7 +56,6 @@ told-start answer f touched lists at told n count size flags moved turned = reco
   apart_size = size;
   moved_size = ap (λ (ns : List ℕ). length ns) moved ∙ length-replicate {A = ℕ} n 0 ∙ count;
   apart = λ first u e low unset. flag-tells answer f 0 touched lists at u (get_or told.apart.items u false) low first (flags first u low) unset e;
-  moved_past = λ u. omega (arith, ap (λ (ns : List ℕ). get_or ns u 0) moved, all-zero n u);
   moved = λ later. absurd (omega (arith, later));
   turned = turned;
 }
@@ -191,7 +184,7 @@ module _ (answer : Answer) (f : Frame) (r : ℕ) (lists : Lists) (frame : IsFram
   apart-all flags right first u e low unset = flag-tells answer f (r + 1) (was_touched_at answer f (r + 1)) lists at u (get_or flags u false) low first (right u low) unset e
 
   module _ (was mid next : Told) (told : StandsTold answer f r was)
-      (stays : mid.apart ≡ was.apart) (moved : AreSet (λ u to. to ≡ r + 1) 0 new was.moved.items mid.moved.items)
+      (stays : mid.apart ≡ was.apart) (moved : AreSet (λ u to. to ≡ stamp (r + 1)) 0 new was.moved.items mid.moved.items)
       (size : length next.apart.items ≡ length mid.apart.items)
       (apart : f.first ≡ false → (u e : ℕ) → u < count_in f → get_or next.apart.items u false ≡ false
       → sent_in answer f.program.now f.graph.now (new_arcs f) (r + 1) u e ≡ sent_in answer f.program.now f.graph.now (arcs_in f.rows.now.by_head f.old.now) (r + 1) u e)
@@ -199,13 +192,7 @@ module _ (answer : Answer) (f : Frame) (r : ℕ) (lists : Lists) (frame : IsFram
     same-moved : (u : ℕ) → get_or next.moved.items u 0 ≡ get_or mid.moved.items u 0
     same-moved u = ap (λ v. get_or v.items u 0) kept
 
-    past-next : (u : ℕ) → get_or next.moved.items u 0 ≤ r + 1
-    past-next u = elim (cases_Bool (is_changed u new)) [
-      | inl listed ↦ omega (arith, same-moved u, moved.right u listed)
-      | inr out ↦ omega (arith, same-moved u, moved.others u out, told.moved_past u)
-    ]
-
-    moved-next : (u : ℕ) → u < count_in f → (get_or next.moved.items u 0 ≡ r + 1 → ⊥)
+    moved-next : (u : ℕ) → u < count_in f → (get_or next.moved.items u 0 ≡ stamp (r + 1) → ⊥)
         → value_at (lone_at answer f (r + 1)) u ≡ value_at (lone_at answer f (r + 1 - 1)) u
     moved-next u low stays = elim (cases_Bool (is_changed u new)) [
       | inl listed ↦ absurd (stays (same-moved u ∙ moved.right u listed))
@@ -219,7 +206,6 @@ module _ (answer : Answer) (f : Frame) (r : ℕ) (lists : Lists) (frame : IsFram
       apart_size = size ∙ ap (λ v. length v.items) stays ∙ told.apart_size;
       moved_size = ap (λ v. length v.items) kept ∙ moved.size ∙ told.moved_size;
       apart = apart;
-      moved_past = past-next;
       moved = λ later u low stays. moved-next u low stays;
       turned = subst (λ t. TellTurned (λ a. a.head.0) f.graph.now f.rows.now.by_head f.first f.old.now f.new.now t) (sym turned) told.turned;
     }

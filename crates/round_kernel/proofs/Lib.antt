@@ -34,6 +34,7 @@ pub mod Flagging
 pub mod Numbered
 pub mod Spanning
 pub mod Picked
+pub mod Movers
 pub mod Renewing
 pub mod Proper
 pub mod Turning

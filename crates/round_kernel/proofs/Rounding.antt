@@ -251,11 +251,11 @@ module _ (answer : Answer) (f : Frame) (r : ℕ) where
     tells flag (inr same) e = sym (ap (λ (vs : List Val). value_at vs v) (u.old_now one).values_are) ∙ same e ∙ ap (λ (vs : List Val). value_at vs v) u.new_now.values_are
 
   -- the values go one round on
-  pub at-next : (lists : Lists) (pt : Vec Bool Global) (nb on nn : Vec Val Global) (a : Bool) (ns : Vec ℤ Global) → StandAt answer f r (touched_at answer f r) lists
+  pub at-next : (lists : Lists) (pt : Vec Bool Global) (nb on nn : Vec Val Global) (a : Bool) (ns : List ℤ) → StandAt answer f r (touched_at answer f r) lists
       → nn.items ≡ lone_at answer f (r + 1) → nb.items ≡ lone_at answer f r
       → (f.first ≡ false → on.items ≡ lone answer f.program.now f.graph.now (arcs_in f.rows.now.by_head f.old.now) (r + 1)) → (f.first ≡ false → TellParted answer f.program.now f.graph.now (arcs_in f.rows.now.by_head f.old.now) (new_arcs f) r pt.items)
       → length nn.items ≡ count_in f → length nb.items ≡ count_in f → length on.items ≡ count_in f → length pt.items ≡ count_in f
-      → MayKeep a f.program.now f.graph.now → AreSent a f.program.now f.graph.now lists.new_degrees.items nn.items ns.items
+      → MayKeep a f.program.now f.graph.now → AreSent a f.program.now f.graph.now lists.new_degrees.items nn.items ns
       → StandAt answer f (r + 1) (was_touched_at answer f (r + 1)) (record lists { parted = pt; new_before = nb; old_now = on; new_now = nn; alike = a; new_sent = ns })
   at-next lists pt nb on nn a ns u enn enb eon told snn snb son spt mk kns = record {
     starts = u.starts;

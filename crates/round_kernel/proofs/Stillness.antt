@@ -1,7 +1,7 @@
 -- Where no tail sends something else and no arc is turned, a node gets the same.
-use Rattle.std.proofs.Common.{◌≡◌, ◌∙◌, ◌<◌, ◌-◌, ◌∷◌, [], sym, ap, subst, refl, ℕ, Bool, true, false, List, get_or, map, filter, inl, inr}
+use Rattle.std.proofs.Common.{◌≡◌, ◌∙◌, ◌<◌, ◌-◌, ◌∷◌, [], sym, ap, subst, refl, ℕ, Bool, true, false, List, length, get_or, map, filter, inl, inr}
 use Rattle.std.specs.Prelude.{All, ◌==◌, ◌||◌, not}
-use Rattle.std.proofs.lemmas.Bool.{cases_Bool, eq-eqb, false≢true}
+use Rattle.std.proofs.lemmas.Bool.{cases_Bool, eqb-false}
 use Rattle.std.proofs.lemmas.List.Elements.{All-head, All-tail, All-cons, All-nil}
 use Rattle.graph_model.specs.declared.value.Val.{Val}
 use Rattle.graph_model.specs.GraphData.{GraphData}
@@ -10,13 +10,14 @@ use Rattle.vertex_lang.specs.declared.program.Program.{Program}
 use Rattle.vertex_lang.specs.Arcs.{is_sent, IsArc, outdeg}
 use Rattle.vertex_lang.specs.Expressions.{Answer, sent_by}
 use Rattle.vertex_lang.specs.Lone.{same_value}
-use Rattle.vertex_lang.specs.Rounds.{carried, lone}
+use Rattle.vertex_lang.specs.Rounds.{carried, lone, value_at}
+use Rattle.vertex_lang.specs.GatherLaws.{values-exact}
 use Rattle.multisets.specs.Multisets.{are_one}
 use Rattle.multisets.specs.CountLaws.{one-tells, one-refl}
 use Rattle.lone_work.specs.Inputs.{got_values}
 use Rattle.round_kernel.specs.declared.told.Told.{Told}
 use Rattle.round_kernel.specs.Sides.{in_view, arcs_in, row_of}
-use Rattle.round_kernel.specs.Telling.{IsTold}
+use Rattle.round_kernel.specs.Telling.{IsTold, stamp}
 
 -- what holds of the chosen ones holds of each that is chosen
 module _ {A : Type 0} (P : A → Type 0) (h : A → Bool) where
@@ -88,19 +89,28 @@ module _ (answer : Answer) (p : Program) (graph : GraphData) (all : List Arc) (f
       }))
 
   -- in two rounds of the new view
-  pub same-rounds : 0 < r → (row : List Arc) → row ≡ row_of all v → All (λ a. (get_or told.moved.items a.tail.0 0 == r) ≡ false) row
-      → got_values answer p graph (arcs_in all new) v r ≡ got_values answer p graph (arcs_in all new) v (r - 1)
-  same-rounds later row e still =
-      let now = carried p graph (arcs_in all new) (lone answer p graph (arcs_in all new) r) in
-      let before = carried p graph (arcs_in all new) (lone answer p graph (arcs_in all new) (r - 1)) in
-      let each = of-chosen (λ (a : Arc). (get_or told.moved.items a.tail.0 0 == r) ≡ false) to_node all (subst (λ (xs : List Arc). All (λ a. (get_or told.moved.items a.tail.0 0 == r) ≡ false) xs) e still) in
-      ap (λ (ms : List Val). filter is_sent ms) (same-list to_node (in_view new) (in_view new) now before all (λ k d low. record {
-        view = λ h. refl;
-        carries = λ h. ap (λ (x : Val). sent_by p graph (get_or all k d).tail.0 x (outdeg (arcs_in all new) (get_or all k d).tail.0) (get_or all k d).edge.0)
-            (is.moved later (get_or all k d).tail.0 (arcs k d low).tail (λ n. not-both (get_or told.moved.items (get_or all k d).tail.0 0) r n (each k d low h)));
-      })) where
-        not-both : (m n : ℕ) → m ≡ n → (m == n) ≡ false → ⊥
-        not-both m n e f = false≢true (sym f ∙ eq-eqb m n e)
+  module _ (later : 0 < r) (moved : List ℕ) (s : ℕ) (em : moved ≡ told.moved.items) (es : s ≡ stamp r) where
+    unmoved : (u : ℕ) → u < length graph.ids → (get_or moved u 0 == s) ≡ false → value_at (lone answer p graph (arcs_in all new) r) u ≡ value_at (lone answer p graph (arcs_in all new) (r - 1)) u
+    unmoved u low still = is.moved later u low (λ e. eqb-false (get_or moved u 0) s still (ap (λ (ns : List ℕ). get_or ns u 0) em ∙ e ∙ sym es))
+
+    -- its own value
+    pub own-same : v < length graph.ids → (get_or moved v 0 == s) ≡ false → (now before : List Val) → now ≡ lone answer p graph (arcs_in all new) r → before ≡ lone answer p graph (arcs_in all new) (r - 1)
+        → false ≡ not (same_value (value_at now v) (value_at before v))
+    own-same low still now before en eb =
+        let one : value_at now v ≡ value_at before v = ap (λ (vs : List Val). value_at vs v) en ∙ unmoved v low still ∙ ap (λ (vs : List Val). value_at vs v) (sym eb) in
+        sym (ap not (ap (λ (x : Val). same_value x (value_at before v)) one ∙ values-exact.itself (value_at before v)))
+
+    pub same-rounds : (row : List Arc) → row ≡ row_of all v → All (λ a. (get_or moved a.tail.0 0 == s) ≡ false) row
+        → got_values answer p graph (arcs_in all new) v r ≡ got_values answer p graph (arcs_in all new) v (r - 1)
+    same-rounds row e still =
+        let now = carried p graph (arcs_in all new) (lone answer p graph (arcs_in all new) r) in
+        let before = carried p graph (arcs_in all new) (lone answer p graph (arcs_in all new) (r - 1)) in
+        let each = of-chosen (λ (a : Arc). (get_or moved a.tail.0 0 == s) ≡ false) to_node all (subst (λ (xs : List Arc). All (λ a. (get_or moved a.tail.0 0 == s) ≡ false) xs) e still) in
+        ap (λ (ms : List Val). filter is_sent ms) (same-list to_node (in_view new) (in_view new) now before all (λ k d low. record {
+          view = λ h. refl;
+          carries = λ h. ap (λ (x : Val). sent_by p graph (get_or all k d).tail.0 x (outdeg (arcs_in all new) (get_or all k d).tail.0) (get_or all k d).edge.0)
+              (unmoved (get_or all k d).tail.0 (arcs k d low).tail (each k d low h));
+        }))
 
 -- the same messages are one multiset
 pub itself : (ms ns : List Val) → ms ≡ ns → false ≡ not (are_one same_value ms ns)

@@ -124,7 +124,7 @@ pub record IsPlace (answer : Answer) (f : Frame) (r v : ℕ) (lists : Lists) : T
   pub new_now : IsRound answer f.program.now f.graph.now f.rows.now.by_head f.new.now lists.new_degrees.items lists.new_now.items r
   pub new_before : IsRound answer f.program.now f.graph.now f.rows.now.by_head f.new.now lists.new_degrees.items lists.new_before.items (r - 1)
   pub old_now : f.first ≡ false → IsRound answer f.program.now f.graph.now f.rows.now.by_head f.old.now lists.old_degrees.items lists.old_now.items r
-  pub new_sent : AreSent lists.alike f.program.now f.graph.now lists.new_degrees.items lists.new_now.items lists.new_sent.items
+  pub new_sent : AreSent lists.alike f.program.now f.graph.now lists.new_degrees.items lists.new_now.items lists.new_sent
   pub touched_size : length lists.touched.items ≡ count_in f
   pub touched : get_or lists.touched.items v false ≡ was_touched_at answer f r v
   pub marked_size : length lists.marked.items ≡ count_in f

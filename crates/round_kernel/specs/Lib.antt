@@ -1,4 +1,5 @@
 pub mod Codes
+pub mod ShortCodes
 pub mod Counts
 pub mod Sides
 pub mod Chained

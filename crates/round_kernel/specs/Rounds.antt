@@ -42,7 +42,7 @@ pub record AreAt (answer : Answer) (p : Program) (graph : GraphData) (all : List
   pub watched_are : first ≡ false → All (λ a. IsTurned old new a → get_or lists.watched.items a.tail.0 false ≡ true) all
   pub turned_are : TellTurned (λ a. a.tail.0) graph all first old new lists.turned
   pub keeps : MayKeep lists.alike p graph
-  pub new_sent : AreSent lists.alike p graph lists.new_degrees.items lists.new_now.items lists.new_sent.items
+  pub new_sent : AreSent lists.alike p graph lists.new_degrees.items lists.new_now.items lists.new_sent
   pub queue : IsQueue (length graph.ids) lists.queue
 
 -- no node waits, and none is shown to be marked

@@ -53,6 +53,10 @@ pub record IsSized (graph : GraphData) (edges : List Bool) (degrees : List ℕ) 
 abbrev pub AreSent : Bool → Program → GraphData → List ℕ → List Val → List ℤ → Type 0
 AreSent alike p graph degrees values sent = alike ≡ true → (length sent ≡ length graph.ids) × ((u e : ℕ) → u < length graph.ids → number_at sent u ≡ sent_by p graph u (value_at values u) (get_or degrees u 0) e)
 
+-- the first nodes, as many as there are numbers, send these
+abbrev pub AreSentFirst : Program → GraphData → List ℕ → List Val → List ℤ → Type 0
+AreSentFirst p graph degrees values sent = (u e : ℕ) → u < length sent → number_at sent u ≡ sent_by p graph u (value_at values u) (get_or degrees u 0) e
+
 -- messages may be kept: they are the same along all arcs that leave a node, and there is an edge
 abbrev pub MayKeep : Bool → Program → GraphData → Type 0
 MayKeep alike p graph = alike ≡ true → IgnoresEdge p.send × (0 < length graph.ends)

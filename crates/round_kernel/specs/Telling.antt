@@ -1,5 +1,5 @@
 -- Which nodes may send something else in two rounds.
-use Rattle.std.specs.Prelude.{◌≡◌, ◌≢◌, ◌==◌, ◌<◌, ◌≤◌, ◌-◌, ℕ, Bool, false, List, length, get_or}
+use Rattle.std.specs.Prelude.{◌≡◌, ◌≢◌, ◌==◌, ◌<◌, ◌-◌, ◌%◌, ℕ, Bool, false, List, length, get_or}
 use Rattle.graph_model.specs.declared.value.Val.{Val}
 use Rattle.graph_model.specs.GraphData.{GraphData}
 use Rattle.vertex_lang.specs.declared.arc.Arc.{Arc}
@@ -18,14 +18,17 @@ use Rattle.round_kernel.specs.TurnedArcs.{TellTurned}
 abbrev pub sent_in : Answer → Program → GraphData → List Arc → ℕ → ℕ → ℕ → Val
 sent_in answer p graph arcs r u e = sent_by p graph u (value_at (lone answer p graph arcs r) u) (outdeg arcs u) e
 
--- a node that isn't told apart sends the same in both views; one that hasn't moved has the value of the round before; and
--- the arcs that are turned are told
+-- what is kept of the number of a round
+abbrev pub stamp : ℕ → ℕ
+stamp r = r % 256
+
+-- a node that isn't told apart sends the same in both views; one whose stamp isn't that of the round has the value of the round before;
+-- and the arcs that are turned are told
 pub record IsTold (answer : Answer) (p : Program) (graph : GraphData) (all : List Arc) (first : Bool) (old new : List Bool) (r : ℕ) (told : Told) : Type 0 where
   pub apart_size : length told.apart.items ≡ length graph.ids
   pub moved_size : length told.moved.items ≡ length graph.ids
   pub apart : first ≡ false → (u e : ℕ) → u < length graph.ids → get_or told.apart.items u false ≡ false → sent_in answer p graph (arcs_in all new) r u e ≡ sent_in answer p graph (arcs_in all old) r u e
-  pub moved_past : (u : ℕ) → get_or told.moved.items u 0 ≤ r
-  pub moved : 0 < r → (u : ℕ) → u < length graph.ids → get_or told.moved.items u 0 ≢ r → value_at (lone answer p graph (arcs_in all new) r) u ≡ value_at (lone answer p graph (arcs_in all new) (r - 1)) u
+  pub moved : 0 < r → (u : ℕ) → u < length graph.ids → get_or told.moved.items u 0 ≢ stamp r → value_at (lone answer p graph (arcs_in all new) r) u ≡ value_at (lone answer p graph (arcs_in all new) (r - 1)) u
   pub turned : TellTurned (λ a. a.head.0) graph all first old new told.turned
 
 -- the same of a step
@@ -35,12 +38,12 @@ StandsTold answer f r told = IsTold answer f.program.now f.graph.now f.rows.now.
 -- a node may send something else in the one of two rounds than in the other
 abbrev pub moves : Movers → ℕ → Bool
 moves (movers.Views apart) u = get_or apart.now u false
-moves (movers.Rounds moved r) u = get_or moved.now u 0 == r
+moves (movers.Rounds moved s) u = get_or moved.now u 0 == s
 
 -- there is something told of the node
 abbrev pub InMovers : Movers → ℕ → Type 0
 InMovers (movers.Views apart) u = u < length apart.now
-InMovers (movers.Rounds moved r) u = u < length moved.now
+InMovers (movers.Rounds moved s) u = u < length moved.now
 
 -- the others send the same, along each edge
 abbrev pub AreStill : Program → GraphData → Movers → List ℕ → List Val → List ℕ → List Val → Type 0

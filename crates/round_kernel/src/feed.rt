@@ -14,9 +14,7 @@ ghost use Rattle.round_kernel.specs.Tallies.{tally_of};
 use crate::history::Change;
 use crate::live::{Link, Live, live_links, live_tails};
 use crate::message::{Side, tally};
-use crate::numbers::{
-    numbers_of, renew, step_column, tally_arcs, tally_links, tally_steps, tally_tails,
-};
+use crate::numbers::{numbers_of, renew, step_column, tally_arcs, tally_links, tally_steps};
 use crate::past::Listed;
 use crate::round::{Frame, Lists};
 use crate::rows::Rows;
@@ -155,7 +153,7 @@ impl Feed {
     {
         match self {
             Feed::Messages(live) if side.alike => match live {
-                Some(tails) => tally_tails(program.gather, side.sent, tails.row(node)),
+                Some(tails) => side.sent.tally(program.gather, tails.row(node)),
                 None => tally_arcs(program.gather, side.sent, side.edges, rows.into(node)),
             },
             Feed::Steps(column, numbers, live) => match live {

@@ -11,6 +11,7 @@
 
 mod aids;
 mod chained;
+mod codes;
 mod degrees;
 mod feed;
 mod history;

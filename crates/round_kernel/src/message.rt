@@ -15,13 +15,14 @@ ghost use Rattle.round_kernel.specs.Sides.{in_view, IsTurned, brings, all_brough
 ghost use Rattle.round_kernel.specs.Telling.{InMovers, AreStill, moves};
 ghost use Rattle.round_kernel.specs.Tallies.{tally_of};
 
+use crate::codes::Codes;
 use crate::numbers::{step_column, step_of, stepped, with_step};
 use crate::sent::send;
 use crate::span::value_of;
 use crate::tally::{Tally, lesser_of};
 use crate::told::Movers;
 use crate::turned::has_edge;
-use graph_model::{Graph, Val};
+use graph_model::{Graph, NodeNo, Val};
 use multisets::are_one_multiset;
 use surge_outside::NoMemory;
 use vertex_lang::{Arc, Program};
@@ -35,7 +36,7 @@ pub(crate) struct Side<'a> {
     pub(crate) values: &'a [Val],
     /// Whether the message of a node is the same along all arcs that leave it, and is kept in `sent`.
     pub(crate) alike: bool,
-    pub(crate) sent: &'a [i64],
+    pub(crate) sent: &'a Codes,
 }
 
 /// Lists that are filled and emptied again.
@@ -43,6 +44,8 @@ pub(crate) struct Side<'a> {
 pub(crate) struct Scratch {
     pub(crate) left: Vec<Val>,
     pub(crate) right: Vec<Val>,
+    /// Nodes that were picked stand first in it, and what is behind them means nothing.
+    pub(crate) picked: Vec<NodeNo>,
 }
 
 /// What an arc brings: none where its edge is not in the view.
@@ -98,11 +101,11 @@ pub(crate) fn sends_nothing(program: &Program, graph: &Graph, side: &Side<'_>, a
 }
 
 /// The message, or the value, that is kept for a node.
-pub(crate) fn kept(sent: &[i64], node: usize) -> Val
+pub(crate) fn kept(sent: &Codes, node: usize) -> Val
     requires { node < length sent.now }
     ensures { result ≡ number_at sent.now node }
 {
-    value_of(sent[node])
+    value_of(sent.at(node))
 }
 
 /// What all that these arcs bring comes to, in one pass over them.

@@ -6,11 +6,12 @@ ghost use Rattle.vertex_lang.specs.declared.program.Expr.TheVariants.{EdgeProp};
 ghost use Rattle.vertex_lang.specs.Expressions.{edge_value};
 ghost use Rattle.vertex_lang.specs.Values.{added};
 ghost use Rattle.round_kernel.specs.Codes.{value_in, code_of};
-ghost use Rattle.round_kernel.specs.Numbers.{AreNumbers, AreRenewed, AreProper, IsStep, brought_by, brought_with, sent_from, sent_in_view, sent_with};
+ghost use Rattle.round_kernel.specs.Numbers.{AreNumbers, AreRenewed, AreProper, IsStep, brought_by, brought_with, sent_in_view, sent_with};
 ghost use Rattle.round_kernel.specs.Links.{sent_over};
 ghost use Rattle.round_kernel.specs.Spans.{IsSpan};
 ghost use Rattle.round_kernel.specs.Tallies.{tally_of};
 
+use crate::codes::Codes;
 use crate::history::Change;
 use crate::live::Link;
 use crate::span::{NONE, Span};
@@ -61,7 +62,7 @@ pub(crate) fn renew(numbers: &mut [i64], values: &[Val], changes: &[Change]) -> 
 }
 
 /// What comes of arcs that bring the numbers of their tails. What isn't in the view brings none.
-pub(crate) fn tally_arcs(kind: Gather, numbers: &[i64], edges: &[bool], row: &[Arc]) -> Tally
+pub(crate) fn tally_arcs(kind: Gather, numbers: &Codes, edges: &[bool], row: &[Arc]) -> Tally
     requires few { length row.now < 2 ^ 32 }
     requires tails { All (λ a. a.tail.0 < length numbers.now) row.now }
     requires edges { All (λ a. a.edge.0 < length edges.now) row.now }
@@ -75,13 +76,13 @@ pub(crate) fn tally_arcs(kind: Gather, numbers: &[i64], edges: &[bool], row: &[A
 }
 
 // The number that an arc brings.
-fn number_over(numbers: &[i64], edges: &[bool], arc: Arc) -> i64
+fn number_over(numbers: &Codes, edges: &[bool], arc: Arc) -> i64
     requires tail { arc.tail.0 < length numbers.now }
     requires edge { arc.edge.0 < length edges.now }
     ensures { value_in result ≡ brought_by numbers.now edges.now arc }
 {
     if edges[arc.edge.0 as usize] {
-        numbers[arc.tail.0 as usize]
+        numbers.at(arc.tail.0 as usize)
     } else {
         NONE
     }
@@ -125,33 +126,6 @@ fn number_with_step(graph: &Graph, column: u32, numbers: &[i64], edges: &[bool],
     } else {
         NONE
     }
-}
-
-/// What comes of arcs that bring the numbers of their tails. Where they are added up, the compiler leaves out the least and the
-/// greatest, for which nobody asks then, and where the least is gathered the greatest.
-pub(crate) fn tally_tails(kind: Gather, numbers: &[i64], tails: &[NodeNo]) -> Tally
-    requires few { length tails.now < 2 ^ 32 }
-    requires tails { All (λ t. t.0 < length numbers.now) tails.now }
-    ensures { result ≡ tally_of kind (sent_from numbers.now tails.now) }
-{
-    match kind {
-        Gather::Sum => span_of_tails(numbers, tails).tally(Gather::Sum),
-        Gather::Min => span_of_tails(numbers, tails).tally(Gather::Min),
-        _ => span_of_tails(numbers, tails).tally(kind),
-    }
-}
-
-// The same, whichever way it is gathered.
-fn span_of_tails(numbers: &[i64], tails: &[NodeNo]) -> Span
-    requires few { length tails.now < 2 ^ 32 }
-    requires tails { All (λ t. t.0 < length numbers.now) tails.now }
-    ensures { IsSpan result (sent_from numbers.now tails.now) }
-{
-    let mut span = Span::new();
-    for tail in tails {
-        span = span.with(numbers[tail.0 as usize]);
-    }
-    span
 }
 
 /// What comes of arcs that bring the number of their tail and their own number added. Where the least is gathered, the greatest

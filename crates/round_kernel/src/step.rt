@@ -292,6 +292,7 @@ fn run_one<U: Updater>(
     let before = history.changes_before(round);
     let work = run_round(alloc, frame, round, lists, kept, aids, made, updater)?;
     go_on(
+        alloc,
         frame,
         before,
         made.changes.as_slice(),

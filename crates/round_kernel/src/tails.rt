@@ -1,24 +1,26 @@
 //! Whether a node gets something else in two rounds, found by what is listed of its arcs: no arc and no view is looked at.
 
-ghost use Rattle.std.specs.Prelude.{◌≡◌, ◌<◌, ◌++◌, ◌∷◌, [], ℕ, not, true, List, length, filter, All, Contains, IfOk, IfSome, OnOk};
+ghost use Rattle.std.specs.Prelude.{◌≡◌, ◌<◌, ◌≤◌, ◌++◌, ◌∷◌, [], ℕ, not, true, List, length, take, filter, All, Contains, IfOk, IfSome, OnOk};
 ghost use Rattle.graph_model.specs.declared.value.Val.{Val};
 ghost use Rattle.vertex_lang.specs.Arcs.{is_sent};
 ghost use Rattle.vertex_lang.specs.Leaves.{IsChecked};
 ghost use Rattle.vertex_lang.specs.Lone.{same_value};
 ghost use Rattle.multisets.specs.Multisets.{are_one};
 ghost use Rattle.round_kernel.specs.Feeds.{IsFed};
+ghost use Rattle.round_kernel.specs.Forms.{HasForm};
 ghost use Rattle.round_kernel.specs.Links.{brought_over, number_over, sent_by_tail, sent_by_tails, sent_over, values_over};
 ghost use Rattle.round_kernel.specs.RowLists.{AreRows};
 ghost use Rattle.round_kernel.specs.Sides.{all_brought, row_of, AreLeft, AreSent, IsRound, IsSized, IsTurned};
-ghost use Rattle.round_kernel.specs.Telling.{InMovers, AreStill};
+ghost use Rattle.round_kernel.specs.Telling.{InMovers, AreStill, moves};
 ghost use Rattle.round_kernel.specs.StillLinks.{IsStillOver};
 
 use crate::feed::Feed;
 use crate::live::Link;
 use crate::message::{Scratch, Side, are_unlike, kept, push_unlike};
 use crate::numbers::with_step;
-use crate::rows::Rows;
-use crate::sent::send;
+use crate::rows::{Rows, keep};
+use crate::sent::{Form, form_of, send_by};
+use crate::span::value_of;
 use crate::told::Movers;
 use graph_model::{EdgeNo, Graph, NodeNo, Val};
 use surge_outside::NoMemory;
@@ -112,13 +114,15 @@ fn differ_by_tails(
         right,
         movers,
         tails,
+        &mut scratch.picked,
         &mut scratch.left,
         &mut scratch.right,
     )?;
     Ok(are_unlike(scratch))
 }
 
-// Puts into two lists what these nodes send in two rounds, without what they send in both.
+// Puts into two lists what these nodes send in two rounds, without what they send in both. Those that may send something else
+// are picked first, into a list that may hold anything.
 fn fill_by_tails(
     program: &Program,
     graph: &Graph,
@@ -126,6 +130,7 @@ fn fill_by_tails(
     right: &Side<'_>,
     movers: Movers<'_>,
     tails: &[NodeNo],
+    picked: &mut Vec<NodeNo>,
     first: &mut Vec<Val>,
     second: &mut Vec<Val>,
 ) -> Result<(), NoMemory>
@@ -144,42 +149,56 @@ fn fill_by_tails(
         (sent_by_tails program.now graph.now left.now.degrees.now left.now.values.now tails.now)
         (sent_by_tails program.now graph.now right.now.degrees.now right.now.values.now tails.now)) }
 {
-    for tail in tails {
-        push_from_tail(program, graph, left, right, movers, *tail, first, second)?;
+    let form = form_of(program);
+    let count = pick(movers, tails, picked)?;
+    for tail in &picked[..count] {
+        push_from_tail(form, program, graph, left, right, *tail, first, second)?;
     }
     Ok(())
 }
 
-// Adds to two lists what a node sends in two rounds, but to neither what it sends in both.
+// Puts those of these nodes that may send something else into the first places of a list, whatever it holds, and tells how
+// many they are. Each is put there, and counted only where it may: so no branch rests on what is told.
+fn pick(movers: Movers<'_>, tails: &[NodeNo], picked: &mut Vec<NodeNo>) -> Result<usize, NoMemory>
+    requires { All (λ t. InMovers movers t.0) tails.now }
+    ensures within { IfOk result (λ count. count ≤ length picked.new.items) }
+    ensures picked { IfOk result (λ count. take count picked.new.items ≡ filter (λ t. moves movers.entry t.0) tails.now) }
+{
+    let mut count = 0;
+    for tail in tails {
+        keep(picked, count, *tail)?;
+        count += usize::from(movers.moves(*tail));
+    }
+    Ok(count)
+}
+
+// Adds to two lists what a node sends in two rounds, but to neither what it sends in both, given the form of the message.
 fn push_from_tail(
+    form: Form,
     program: &Program,
     graph: &Graph,
     left: &Side<'_>,
     right: &Side<'_>,
-    movers: Movers<'_>,
     tail: NodeNo,
     first: &mut Vec<Val>,
     second: &mut Vec<Val>,
 ) -> Result<(), NoMemory>
+    requires form { HasForm program.now form }
     requires checked { IsChecked program.now graph.now }
     requires edge { 0 < length graph.now.ends }
     requires tail { tail.0 < length graph.now.ids }
     requires left { IsSized graph.now left.now.edges.now left.now.degrees.now left.now.values.now }
     requires right { IsSized graph.now right.now.edges.now right.now.degrees.now right.now.values.now }
-    requires movers { InMovers movers tail.0 }
-    requires still { AreStill program.now graph.now movers left.now.degrees.now left.now.values.now right.now.degrees.now right.now.values.now }
     requires alike { left.now.alike ≡ true }
     requires sent { AreSent left.now.alike program.now graph.now left.now.degrees.now left.now.values.now left.now.sent.now }
     ensures { OnOk result ((all more : List Val) → AreLeft first.old.items second.old.items all more → AreLeft first.new.items second.new.items
         (all ++ filter is_sent (sent_by_tail program.now graph.now left.now.degrees.now left.now.values.now tail ∷ []))
         (more ++ filter is_sent (sent_by_tail program.now graph.now right.now.degrees.now right.now.values.now tail ∷ []))) }
 {
-    if !movers.moves(tail) {
-        return Ok(());
-    }
     let place = tail.0 as usize;
     let here = kept(left.sent, place);
-    let there = send(
+    let there = send_by(
+        form,
         program,
         graph,
         tail,
@@ -262,7 +281,7 @@ fn push_over_link(
         return Ok(());
     }
     let place = link.tail.0 as usize;
-    let here = with_step(kept(numbers, place), link.step);
+    let here = with_step(value_of(numbers[place]), link.step);
     let there = with_step(values[place], link.step);
     push_unlike(first, second, here, there)
 }

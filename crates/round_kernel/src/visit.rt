@@ -20,7 +20,7 @@ use crate::message::{Scratch, Side, differ, is_other};
 use crate::rows::Rows;
 use crate::tails::differ_if_listed;
 use crate::tally::{Kept, Tally};
-use crate::told::Movers;
+use crate::told::{Movers, stamp_of};
 use graph_model::{Graph, NodeNo, Val};
 use std::alloc::Global;
 use surge_outside::{List, NoMemory};
@@ -390,7 +390,8 @@ fn is_marked<U: Updater>(
     is_other_input(program, graph, rows, sides, spot, aids, scratch, updater)
 }
 
-// Whether the input of a node differs from that of the round before, in the new view, found by a look at all its arcs.
+// Whether the input of a node differs from that of the round before, in the new view, found by a look at all its arcs. The node's own
+// two values are read only where it may have changed: they lie far apart in memory.
 fn is_other_input<U: Updater>(
     program: &Program,
     graph: &Graph,
@@ -414,16 +415,16 @@ fn is_other_input<U: Updater>(
         return Ok(true);
     }
     let place = spot.node.0 as usize;
-    if is_other(sides.new.values[place], sides.before[place]) {
+    let movers = Movers::Rounds(&aids.told.moved, stamp_of(spot.round));
+    if movers.moves(spot.node) && is_other(sides.new.values[place], sides.before[place]) {
         return Ok(true);
     }
-    let movers = Movers::Rounds(&aids.told.moved, spot.round);
     let before = Side {
         edges: sides.new.edges,
         degrees: sides.new.degrees,
         values: sides.before,
         alike: false,
-        sent: &[],
+        sent: sides.new.sent,
     };
     let listed = differ_if_listed(
         program,

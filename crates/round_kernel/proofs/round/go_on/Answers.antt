@@ -1,4 +1,4 @@
-use Rattle.std.proofs.Common.{◌≡◌, ◌∙◌, ◌+◌, ◌<◌, ◌^◌, ℕ, ℤ, false, List, length, get_or, sym, ap, subst, refl, arith}
+use Rattle.std.proofs.Common.{◌≡◌, ◌∙◌, ◌+◌, ◌<◌, ◌^◌, ℕ, false, List, length, get_or, sym, ap, subst, refl, arith}
 use Rattle.std.specs.Vec.{with_items}
 use Rattle.std.proofs.lemmas.List.{with_items_is}
 use Rattle.graph_model.specs.declared.value.Val.{Val}
@@ -45,8 +45,8 @@ apply-lists-requires-clause-keeps g c =
 pub apply-lists-requires-clause-sent : goal.apply-lists-requires-clause-sent
 apply-lists-requires-clause-sent g c =
     let f = c.args.frame in
-    sent-at _ f.program.now f.graph.now _ _ _ _ _ _ c.deref.ensures.value c.deref_mut-2.ensures.value c.deref_mut-3.ensures.value
-    (subst (λ (l : Lists). AreSent l.alike f.program.now f.graph.now l.new_degrees.items l.new_now.items l.new_sent.items) (sym (kept-both c.args.lists.now c.part_stirred.new.lists c.catch_up_new.new.lists c.part_stirred.ensures.kept c.catch_up_new.ensures.kept)) c.requires.at.new_sent)
+    sent-at _ f.program.now f.graph.now _ _ _ _ _ _ c.deref.ensures.value c.deref_mut-2.ensures.value refl
+    (subst (λ (l : Lists). AreSent l.alike f.program.now f.graph.now l.new_degrees.items l.new_now.items l.new_sent) (sym (kept-both c.args.lists.now c.part_stirred.new.lists c.catch_up_new.new.lists c.part_stirred.ensures.kept c.catch_up_new.ensures.kept)) c.requires.at.new_sent)
 
 pub returns-clause-at : goal.returns-clause-at
 returns-clause-at g c =
@@ -60,17 +60,15 @@ returns-clause-at g c =
     let kept = kept-both c.args.lists.now c.part_stirred.new.lists c.catch_up_new.new.lists c.part_stirred.ensures.kept c.catch_up_new.ensures.kept in
     let on = with_items lists1.old_now c.assign.new.now in
     let nn = with_items lists1.new_now c.apply-lists.new.now in
-    let ns = with_items lists1.new_sent c.apply-lists.new.sent in
+    let ns = c.apply-lists.new.sent in
     let was_old : c.deref_mut.result.now ≡ lists0.old_now.items = c.deref_mut.ensures.value ∙ ap (λ (l : Lists). l.old_now.items) kept in
     let was_new : c.deref_mut-2.result.now ≡ lists0.new_now.items = c.deref_mut-2.ensures.value ∙ ap (λ (l : Lists). l.new_now.items) kept in
     let size_old : length c.deref_mut.result.now ≡ count_in f = ap (λ (vs : List Val). length vs) was_old ∙ c.requires.at.old_sized.values_size in
     let size_new : length c.deref_mut-2.result.now ≡ count_in f = ap (λ (vs : List Val). length vs) was_new ∙ c.requires.at.new_now.sized.values_size in
     let len_old : length c.assign.new.now ≡ lists1.old_now.len = omega (arith, c.assign.auto.now, ap (λ (vs : List Val). length vs) c.deref_mut.ensures.value, lists1.old_now.ok) in
     let len_new : length c.apply-lists.new.now ≡ lists1.new_now.len = omega (arith, c.apply-lists.auto.now, ap (λ (vs : List Val). length vs) c.deref_mut-2.ensures.value, lists1.new_now.ok) in
-    let len_sent : length c.apply-lists.new.sent ≡ lists1.new_sent.len = omega (arith, c.apply-lists.auto.sent, ap (λ (zs : List ℤ). length zs) c.deref_mut-3.ensures.value, lists1.new_sent.ok) in
     let is_old = with_items_is lists1.old_now c.assign.new.now len_old in
     let is_new = with_items_is lists1.new_now c.apply-lists.new.now len_new in
-    let is_sent = with_items_is lists1.new_sent c.apply-lists.new.sent len_sent in
     let more_new = length-lone answer p graph (new_arcs f) (r + 1) in
     let more_old = length-lone answer p graph (arcs_in f.rows.now.by_head f.old.now) (r + 1) in
     let alike : lists1.alike ≡ lists0.alike = ap (λ (l : Lists). l.alike) kept in
@@ -86,7 +84,7 @@ returns-clause-at g c =
     (omega (arith, ap (λ (vs : List Val). length vs) is_old, c.assign.auto.now, size_old))
     c.part_stirred.ensures.size
     (λ e. c.requires.at.keeps (sym alike ∙ c.apply-lists.ensures.only e))
-    (sent-at c.apply-lists.result p graph _ _ _ _ _ _ (sym (c.deref.ensures.value ∙ degrees)) is_new is_sent c.apply-lists.ensures.sent))
+    (sent-at c.apply-lists.result p graph _ _ _ _ _ _ (sym (c.deref.ensures.value ∙ degrees)) is_new refl c.apply-lists.ensures.sent))
 
 pub returns-clause-idle : goal.returns-clause-idle
 returns-clause-idle g c =

@@ -1,20 +1,10 @@
-use Rattle.std.proofs.Common.{◌∙◌, ◌++◌, ◌∷◌, [], List, filter, sym, subst, refl}
+use Rattle.std.proofs.Common.{◌∙◌, ◌++◌, ◌∷◌, [], List, filter, subst}
 use Rattle.std.specs.Prelude.{OnOk}
 use Rattle.graph_model.specs.declared.value.Val.{Val}
 use Rattle.vertex_lang.specs.Arcs.{is_sent}
 use Rattle.round_kernel.specs.Links.{sent_by_tail}
 use Rattle.round_kernel.specs.Sides.{AreLeft}
-use Rattle.round_kernel.proofs.Leftovers.{left-same}
 use Rattle.round_kernel.proofs.tails.push_from_tail.Goals as goal
-
-pub returns-then-not-moves : goal.returns-then-not-moves
-returns-then-not-moves c =
-    let p = c.args.program.now in
-    let graph = c.args.graph.now in
-    let l = c.args.left.now in
-    let r = c.args.right.now in
-    λ all more had. left-same c.args.first.now.items c.args.second.now.items all more _ _ (sent_by_tail p graph l.degrees.now l.values.now c.args.tail) (sent_by_tail p graph r.degrees.now r.values.now c.args.tail) refl refl
-    (c.requires.still c.args.tail.0 0 c.requires.tail (sym c.moves.ensures ∙ c.if-not-moves.true)) had
 
 pub returns : goal.returns
 returns c =
@@ -29,5 +19,5 @@ returns c =
     let done = c.push_unlike.result in
     subst (λ (m : Val). OnOk done ((all more : List Val) → AreLeft was had all more → AreLeft first second (all ++ filter is_sent (m ∷ [])) (more ++ filter is_sent (sent_by_tail p graph r.degrees.now r.values.now c.args.tail ∷ []))))
     (c.kept-here.ensures ∙ (c.requires.sent c.requires.alike).1 c.args.tail.0 0 c.requires.tail)
-    (subst (λ (m : Val). OnOk done ((all more : List Val) → AreLeft was had all more → AreLeft first second (all ++ filter is_sent (here ∷ [])) (more ++ filter is_sent (m ∷ [])))) c.send-there.ensures.message
+    (subst (λ (m : Val). OnOk done ((all more : List Val) → AreLeft was had all more → AreLeft first second (all ++ filter is_sent (here ∷ [])) (more ++ filter is_sent (m ∷ [])))) c.send_by-there.ensures.message
     c.push_unlike.ensures)

@@ -1,4 +1,4 @@
-use Rattle.std.proofs.Common.{◌≡◌, ◌∙◌, ◌++◌, ◌∷◌, [], true, ℤ, List, filter, w64, SFits, to_z, of_z, ap, sym, subst, refl, rules}
+use Rattle.std.proofs.Common.{◌≡◌, ◌∙◌, ◌++◌, ◌∷◌, [], true, ℤ, pos, List, get_or, filter, w64, SFits, to_z, of_z, ap, sym, subst, refl, rules}
 use Rattle.std.proofs.lemmas.Int.{to_z-of_z}
 use Rattle.std.specs.Prelude.{OnOk}
 use Rattle.graph_model.specs.declared.value.Val.{Val}
@@ -25,10 +25,12 @@ returns c =
     let done = c.push_unlike.result in
     let step = c.args.link.step in
     let u = c.args.link.tail.0 in
+    let number = get_or c.args.numbers.now u (pos 0) in
     let fits : SFits w64 step = search rules in
+    let known : SFits w64 number = search rules in
     let sum : here ≡ number_over c.args.numbers.now c.args.link =
     c.with_step-here.ensures
-    ∙ ap (λ (x : Val). added true x (value_in (to_z w64 (of_z w64 step)))) c.kept.ensures
+    ∙ ap (λ (x : Val). added true x (value_in (to_z w64 (of_z w64 step)))) (c.value_of.ensures ∙ ap value_in (to_z-of_z w64 number known))
     ∙ ap (λ (z : ℤ). added true (number_at c.args.numbers.now u) (value_in z)) (to_z-of_z w64 step fits) in
     let other : c.with_step-there.result ≡ brought_over c.args.values.now c.args.link =
     c.with_step-there.ensures ∙ ap (λ (z : ℤ). added true (value_at c.args.values.now u) (value_in z)) (to_z-of_z w64 step fits) in

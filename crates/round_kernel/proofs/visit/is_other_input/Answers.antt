@@ -1,17 +1,19 @@
-use Rattle.std.proofs.Common.{◌≡◌, ◌<◌, ◌-◌, suc, false, sym, subst, refl, ℕ, List, length, get_or, arith}
+use Rattle.std.proofs.Common.{◌≡◌, ◌∙◌, ◌<◌, ◌-◌, suc, false, sym, subst, refl, List, length, arith}
 use Rattle.std.specs.Prelude.{All, ◌==◌, not}
 use Rattle.std.proofs.lemmas.List.Elements.{All-filter, All-weaker}
 use Rattle.vertex_lang.specs.declared.arc.Arc.{Arc}
 use Rattle.vertex_lang.specs.Arcs.{IsArc}
 use Rattle.lone_work.specs.Inputs.{got_values}
 use Rattle.vertex_lang.specs.Lone.{same_value}
+use Rattle.vertex_lang.specs.Rounds.{value_at}
 use Rattle.multisets.specs.Multisets.{are_one}
 use Rattle.round_kernel.specs.Sides.{arcs_in, all_brought, row_of}
 use Rattle.round_kernel.proofs.Brought.{brought-is, brought-row}
 use Rattle.round_kernel.proofs.Listed.{some-is}
 use Rattle.round_kernel.proofs.Visits.{marked-first, marked-own, marked-got}
-use Rattle.round_kernel.proofs.Stillness.{itself, same-rounds}
+use Rattle.round_kernel.proofs.Stillness.{itself, own-same, same-rounds}
 use Rattle.round_kernel.proofs.visit.is_other_input.Goals as goal
+use Rattle.round_kernel.proofs.visit.is_other_input.Goals.{else-moves-via-then-moves+else-is_other, else-moves-via-else-moves}
 
 pub returns-then-spot-eq0 : goal.returns-then-spot-eq0
 returns-then-spot-eq0 g c = marked-first g.U.Updater.answer c.args.program.now c.args.graph.now (arcs_in c.args.rows.now.by_head c.args.sides.now.new.edges.now) c.args.spot.node.0 c.args.spot.round c.if-spot-eq0.true
@@ -30,16 +32,23 @@ returns-in-Some g c =
     let all = c.args.rows.now.by_head in
     let new = c.args.sides.now.new in
     let before = c.args.sides.now.before.now in
+    let told = c.args.aids.now.told in
     let v = c.args.spot.node.0 in
     let r = c.args.spot.round in
+    let later : 0 < r = omega arith in
     let at : r ≡ suc (r - 1) = omega arith in
     let ms = all_brought p graph new.edges.now new.degrees.now new.values.now (row_of all v) in
     let ns = all_brought p graph new.edges.now new.degrees.now before (row_of all v) in
+    let own : false ≡ not (same_value (value_at new.values.now v) (value_at before v)) = elim c.else-moves.branch [
+      | else-moves-via-then-moves+else-is_other w ↦ sym w.if-is_other.false ∙ w.is_other.ensures
+      | else-moves-via-else-moves w ↦ own-same answer p graph all c.args.spot.first c.args.sides.now.old.edges.now new.edges.now r told c.requires.aided.told c.requires.rows.arcs v later c.deref.result.now c.stamp_of.result c.deref.ensures.value c.stamp_of.ensures
+          c.requires.node (sym c.moves.ensures ∙ w.if-moves.false) new.values.now before c.requires.new.values_are c.requires.before.values_are
+    ] in
     marked-got answer p graph (arcs_in all new.edges.now) v r (r - 1) at new.values.now before ms ns
-    c.is_other.result c.in-Some.marked c.requires.new.values_are c.requires.before.values_are
+    false c.in-Some.marked c.requires.new.values_are c.requires.before.values_are
     (brought-is answer p graph all new.edges.now new.degrees.now new.values.now r c.requires.new v c.requires.rows.arcs)
     (brought-is answer p graph all new.edges.now new.degrees.now before (r - 1) c.requires.before v c.requires.rows.arcs)
-    c.is_other.ensures c.if-is_other.false
+    own refl
     (some-is c.in_ok-listed.listed c.in-Some.marked (not (are_one same_value ms ns)) c.in-Some.is c.in_ok-listed.ensures)
 
 pub are_still-requires : goal.are_still-requires
@@ -60,28 +69,43 @@ returns-then-are_still g c =
     let r = c.args.spot.round in
     let later : 0 < r = omega arith in
     let at : r ≡ suc (r - 1) = omega arith in
+    let values = c.args.sides.now.before.now in
     let now = got_values answer p graph (arcs_in all new.edges.now) v r in
     let before = got_values answer p graph (arcs_in all new.edges.now) v (r - 1) in
-    let still = subst (λ (ns : List ℕ). All (λ (a : Arc). (get_or ns a.tail.0 0 == r) ≡ false) c.into-row.result.now) c.deref.ensures.value (c.are_still.ensures c.if-are_still.true) in
-    marked-got answer p graph (arcs_in all new.edges.now) v r (r - 1) at new.values.now c.args.sides.now.before.now now before c.is_other.result false c.requires.new.values_are c.requires.before.values_are
-    refl refl c.is_other.ensures c.if-is_other.false
-    (itself now before (same-rounds answer p graph all c.args.spot.first c.args.sides.now.old.edges.now new.edges.now r told c.requires.aided.told c.requires.rows.arcs v later c.into-row.result.now c.into-row.ensures still))
+    let own : false ≡ not (same_value (value_at new.values.now v) (value_at values v)) = elim c.else-moves.branch [
+      | else-moves-via-then-moves+else-is_other w ↦ sym w.if-is_other.false ∙ w.is_other.ensures
+      | else-moves-via-else-moves w ↦ own-same answer p graph all c.args.spot.first c.args.sides.now.old.edges.now new.edges.now r told c.requires.aided.told c.requires.rows.arcs v later c.deref.result.now c.stamp_of.result c.deref.ensures.value c.stamp_of.ensures
+          c.requires.node (sym c.moves.ensures ∙ w.if-moves.false) new.values.now values c.requires.new.values_are c.requires.before.values_are
+    ] in
+    marked-got answer p graph (arcs_in all new.edges.now) v r (r - 1) at new.values.now values now before false false c.requires.new.values_are c.requires.before.values_are
+    refl refl own refl
+    (itself now before (same-rounds answer p graph all c.args.spot.first c.args.sides.now.old.edges.now new.edges.now r told c.requires.aided.told c.requires.rows.arcs v later c.deref.result.now c.stamp_of.result c.deref.ensures.value c.stamp_of.ensures
+    c.into-row.result.now c.into-row.ensures (c.are_still.ensures c.if-are_still.true)))
 
 pub differ-requires-clause-row : goal.differ-requires-clause-row
 differ-requires-clause-row g c = subst (λ (xs : List Arc). All (IsArc c.args.graph.now) xs) (sym c.into-row.ensures) (All-filter (λ (a : Arc). a.head.0 == c.args.spot.node.0) (IsArc c.args.graph.now) c.args.rows.now.by_head c.requires.rows.arcs)
 
 pub returns : goal.returns
 returns g c =
+    let answer = g.U.Updater.answer in
     let p = c.args.program.now in
     let graph = c.args.graph.now in
     let all = c.args.rows.now.by_head in
     let new = c.args.sides.now.new in
+    let before = c.args.sides.now.before.now in
+    let told = c.args.aids.now.told in
     let v = c.args.spot.node.0 in
     let r = c.args.spot.round in
+    let later : 0 < r = omega arith in
     let at : r ≡ suc (r - 1) = omega arith in
-    marked-got g.U.Updater.answer p graph (arcs_in all new.edges.now) v r (r - 1) at new.values.now c.args.sides.now.before.now
-    (all_brought p graph new.edges.now new.degrees.now new.values.now c.into-row.result.now) (all_brought p graph new.edges.now new.degrees.now c.args.sides.now.before.now c.into-row.result.now)
-    c.is_other.result c.in_ok-marked.marked c.requires.new.values_are c.requires.before.values_are
-    (brought-row g.U.Updater.answer p graph all new.edges.now new.degrees.now new.values.now r c.requires.new v c.into-row.result.now c.requires.rows.arcs c.into-row.ensures)
-    (brought-row g.U.Updater.answer p graph all new.edges.now new.degrees.now c.args.sides.now.before.now (r - 1) c.requires.before v c.into-row.result.now c.requires.rows.arcs c.into-row.ensures)
-    c.is_other.ensures c.if-is_other.false c.in_ok-marked.ensures
+    let own : false ≡ not (same_value (value_at new.values.now v) (value_at before v)) = elim c.else-moves.branch [
+      | else-moves-via-then-moves+else-is_other w ↦ sym w.if-is_other.false ∙ w.is_other.ensures
+      | else-moves-via-else-moves w ↦ own-same answer p graph all c.args.spot.first c.args.sides.now.old.edges.now new.edges.now r told c.requires.aided.told c.requires.rows.arcs v later c.deref.result.now c.stamp_of.result c.deref.ensures.value c.stamp_of.ensures
+          c.requires.node (sym c.moves.ensures ∙ w.if-moves.false) new.values.now before c.requires.new.values_are c.requires.before.values_are
+    ] in
+    marked-got answer p graph (arcs_in all new.edges.now) v r (r - 1) at new.values.now before
+    (all_brought p graph new.edges.now new.degrees.now new.values.now c.into-row.result.now) (all_brought p graph new.edges.now new.degrees.now before c.into-row.result.now)
+    false c.in_ok-marked.marked c.requires.new.values_are c.requires.before.values_are
+    (brought-row answer p graph all new.edges.now new.degrees.now new.values.now r c.requires.new v c.into-row.result.now c.requires.rows.arcs c.into-row.ensures)
+    (brought-row answer p graph all new.edges.now new.degrees.now before (r - 1) c.requires.before v c.into-row.result.now c.requires.rows.arcs c.into-row.ensures)
+    own refl c.in_ok-marked.ensures

@@ -21,12 +21,12 @@ of-row all row v e P h = subst (λ (xs : List Arc). All P xs) (sym e) (All-filte
 
 -- ---- messages
 
-pub tally_tails-requires-clause-few : goal.tally_tails-requires-clause-few
-tally_tails-requires-clause-few g c =
+pub tally-requires-clause-few : goal.tally-requires-clause-few
+tally-requires-clause-few g c =
     omega (arith, c.requires.rows.few, few tail_of c.args.rows.now.by_head c.args.side.now.edges.now (length c.args.graph.now.ids) c.in-Some.tails (fed-tails g.U.Updater.answer c.args.program.now c.args.graph.now c.args.rows.now.by_head c.args.side.now.edges.now c.args.round c.args.self.now c.requires.fed c.in-Messages.live c.in-Some.tails c.in-Messages.is c.in-Some.is) c.args.node.0 c.requires.node c.row.result.now c.row.ensures)
 
-pub tally_tails-requires-clause-tails : goal.tally_tails-requires-clause-tails
-tally_tails-requires-clause-tails g c =
+pub tally-requires-clause-tails : goal.tally-requires-clause-tails
+tally-requires-clause-tails g c =
     let size = (c.requires.sent c.if-side.true).0 in
     each tail_of c.args.rows.now.by_head c.args.side.now.edges.now (length c.args.graph.now.ids) c.in-Some.tails (fed-tails g.U.Updater.answer c.args.program.now c.args.graph.now c.args.rows.now.by_head c.args.side.now.edges.now c.args.round c.args.self.now c.requires.fed c.in-Messages.live c.in-Some.tails c.in-Messages.is c.in-Some.is) c.args.node.0 c.requires.node c.row.result.now c.row.ensures (λ (t : NodeNo). t.0 < length c.args.side.now.sent.now)
     (All-weaker (IsArc c.args.graph.now) (λ (a : Arc). a.tail.0 < length c.args.side.now.sent.now) (λ a arc. omega (arith, arc.tail, size)) c.args.rows.now.by_head c.requires.rows.arcs)
@@ -47,7 +47,7 @@ tally_arcs-requires-clause-edges g c =
 
 pub returns-in-Some : goal.returns-in-Some
 returns-in-Some g c =
-    c.tally_tails.ensures
+    c.tally.ensures
     ∙ ap (λ (ms : List Val). tally_of c.args.program.now.gather ms) (by-tails g.U.Updater.answer c.args.program.now c.args.graph.now c.args.rows.now.by_head c.args.side.now.edges.now c.args.round c.requires.rows.arcs c.args.node.0 c.requires.node c.in-Some.tails c.args.side.now.sent.now c.row.result.now (sent-is g.U.Updater.answer c.args.program.now c.args.graph.now c.args.rows.now.by_head c.args.side.now.edges.now c.args.side.now.degrees.now c.args.side.now.values.now c.args.round c.requires.side c.args.side.now.alike c.args.side.now.sent.now c.requires.sent c.if-side.true) (fed-tails g.U.Updater.answer c.args.program.now c.args.graph.now c.args.rows.now.by_head c.args.side.now.edges.now c.args.round c.args.self.now c.requires.fed c.in-Messages.live c.in-Some.tails c.in-Messages.is c.in-Some.is) c.row.ensures)
 
 pub returns-in-None : goal.returns-in-None
@@ -95,12 +95,12 @@ returns-in-None-live g c =
 
 -- ---- nothing is kept
 
-pub tally-requires-clause-row : goal.tally-requires-clause-row
-tally-requires-clause-row g c = of-row c.args.rows.now.by_head c.into-in_default.result.now c.args.node.0 c.into-in_default.ensures (IsArc c.args.graph.now) c.requires.rows.arcs
+pub tally-requires-in_default-clause-row : goal.tally-requires-in_default-clause-row
+tally-requires-in_default-clause-row g c = of-row c.args.rows.now.by_head c.into-in_default.result.now c.args.node.0 c.into-in_default.ensures (IsArc c.args.graph.now) c.requires.rows.arcs
 
-pub tally-requires-clause-few : goal.tally-requires-clause-few
-tally-requires-clause-few g c = omega (arith, row-few c.args.rows.now.by_head c.into-in_default.result.now c.args.node.0 c.into-in_default.ensures, c.requires.rows.few)
+pub tally-requires-in_default-clause-few : goal.tally-requires-in_default-clause-few
+tally-requires-in_default-clause-few g c = omega (arith, row-few c.args.rows.now.by_head c.into-in_default.result.now c.args.node.0 c.into-in_default.ensures, c.requires.rows.few)
 
 pub returns-in_default : goal.returns-in_default
 returns-in_default g c =
-    tally-got g.U.Updater.answer c.args.program.now c.args.graph.now c.args.rows.now.by_head c.args.side.now.edges.now c.args.side.now.degrees.now c.args.side.now.values.now c.args.round c.requires.side c.args.node.0 c.into-in_default.result.now c.requires.rows.arcs c.into-in_default.ensures c.tally.result c.tally.ensures
+    tally-got g.U.Updater.answer c.args.program.now c.args.graph.now c.args.rows.now.by_head c.args.side.now.edges.now c.args.side.now.degrees.now c.args.side.now.values.now c.args.round c.requires.side c.args.node.0 c.into-in_default.result.now c.requires.rows.arcs c.into-in_default.ensures c.tally-in_default.result c.tally-in_default.ensures

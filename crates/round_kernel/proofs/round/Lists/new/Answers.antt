@@ -40,11 +40,11 @@ returns-clause-at g c =
       new_degrees = c.args.degrees.new;
       touched = c.in_ok-touched.touched;
       marked = c.in_ok-marked.marked;
-      shown = c.new-5.result;
+      shown = c.new-6.result;
       watched = c.in_ok-watched.watched;
       turned = c.in_ok-turned.turned;
       queue = c.in_ok-queue.queue;
-      scratch = record { left = c.new-3.result; right = c.new-4.result };
+      scratch = record { left = c.new-3.result; right = c.new-4.result; picked = c.new-5.result };
     } in
     let parted : c.in_ok-parted.parted.items ≡ replicate n false = c.in_ok-parted.ensures.items_if_clones_equal (λ y e. e) in
     let touched : c.in_ok-touched.touched.items ≡ replicate n f.first = c.in_ok-touched.ensures.items_if_clones_equal (λ y e. e) in

@@ -4,7 +4,7 @@ use Rattle.round_kernel.proofs.told.Told.move_all.Given as goal
 
 abbrev pub invariant-loop-change : goal.invariant-loop-change
 invariant-loop-change l = record {
-  moved : AreSet (λ u to. to ≡ l.round) 0 (take l.change-index l.changes) l.initial.self.moved.items l.self.moved.items;
+  moved : AreSet (λ u to. to ≡ l.stamp) 0 (take l.change-index l.changes) l.initial.self.moved.items l.self.moved.items;
   apart : l.self.apart ≡ l.initial.self.apart;
   turned : l.self.turned ≡ l.initial.self.turned;
 }

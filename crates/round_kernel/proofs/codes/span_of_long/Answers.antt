@@ -7,7 +7,7 @@ use Rattle.round_kernel.specs.Codes.{number_at, value_in}
 use Rattle.round_kernel.specs.Numbers.{sent_from}
 use Rattle.round_kernel.specs.Spans.{IsSpan, with_message}
 use Rattle.round_kernel.proofs.Numbered.{sent-few, sent-more}
-use Rattle.round_kernel.proofs.numbers.span_of_tails.Goals as goal
+use Rattle.round_kernel.proofs.codes.span_of_long.Goals as goal
 
 abbrev no_node : NodeNo
 no_node = record { 0 = 0 }

@@ -2,7 +2,7 @@ use Rattle.std.proofs.Common.{◌≡◌, ◌∙◌, ◌+◌, ◌++◌, ◌∷◌
 use Rattle.std.proofs.lemmas.Int.{to_z-of_z}
 use Rattle.std.proofs.lemmas.List.{length_push}
 use Rattle.round_kernel.proofs.Sending.{more-sent}
-use Rattle.round_kernel.proofs.values.send_all_by.Goals as goal
+use Rattle.round_kernel.proofs.values.send_long.Goals as goal
 
 pub send_by-message-requires-clause-outdeg : goal.send_by-message-requires-clause-outdeg
 send_by-message-requires-clause-outdeg c = c.requires.small c.loop-node.node (omega (arith, c.loop-node-test.true, c.node_count-count.ensures.count))
@@ -13,7 +13,7 @@ send_by-message-requires-clause-edge c = (c.requires.keeps refl).1
 pub loop-node-preserved : goal.loop-node-preserved
 loop-node-preserved c =
     let n = c.loop-node.node in
-    let sent = c.loop-node.sent.items in
+    let sent = c.loop-node.long.items in
     let z = c.in-Some.number in
     let fits : SFits w64 z = search rules in
     let more : c.push.new.self.items ≡ sent ++ z ∷ [] = c.in_ok-push-in-Some.ensures.items ∙ ap (λ (x : ℤ). sent ++ x ∷ []) (to_z-of_z w64 z fits) in
