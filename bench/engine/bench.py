@@ -22,7 +22,7 @@ from cases import all_cases
 
 HERE = os.path.dirname(os.path.abspath(__file__))
 TOP = os.path.dirname(os.path.dirname(HERE))
-# What a case may take before no further round of it is begun, in processor seconds.
+# What a case may take before no further round of it is begun, in processor seconds, unless it is told.
 LONG = 15
 HANDED_IN = {"scratch": "scratch.cpp", "histories-plain": "histories_plain.cpp", "histories": "histories.cpp"}
 
@@ -50,7 +50,8 @@ def options():
     reader.add_argument("--workloads", metavar="NAMES", help="of these workloads alone, with commas between")
     reader.add_argument("--programs", metavar="NAMES", help="of these programs alone, with commas between")
     reader.add_argument("--sides", metavar="NAMES", help="of these C++ programs alone, with commas between, or none")
-    reader.add_argument("--rounds", type=int, default=3, help="how often each side runs, if that is not long (3)")
+    reader.add_argument("--rounds", type=int, default=3, help="how often each side runs at most (3)")
+    reader.add_argument("--long", type=int, default=LONG, metavar="SECONDS", help=f"no round is begun once all sides ran so long ({LONG})")
     reader.add_argument("--limit", type=int, default=120, help="how many processor seconds a run may take (120)")
     reader.add_argument("--list", action="store_true", help="names the workloads and their programs, and ends")
     return reader.parse_args()
@@ -139,11 +140,11 @@ def sides_of(case, program, cpp, folder):
     return sides
 
 
-def run_case(case, sides, folder, rounds, limit):
+def run_case(case, sides, folder, rounds, long, limit):
     """The figures of each side that ended well, and whether all did and printed the same."""
     found, printed, left, spent = {}, set(), dict(sides), 0.0
     for _round in range(case.rounds or rounds):
-        if spent > LONG:
+        if spent > long:
             break
         for name, words in list(left.items()):
             ran = measure(words, folder, limit)
@@ -209,7 +210,8 @@ def bench(asked):
     head(list(cpp))
     for case in chosen(asked):
         folder = data_of(case.workload, work)
-        found, agree = run_case(case, sides_of(case, program, cpp, folder), folder, asked.rounds, asked.limit)
+        sides = sides_of(case, program, cpp, folder)
+        found, agree = run_case(case, sides, folder, asked.rounds, asked.long, asked.limit)
         for side in found:
             row(case, side, found, list(cpp))
         if not agree:
