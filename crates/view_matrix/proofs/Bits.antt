@@ -45,7 +45,7 @@ from_none (x ∷ xs) = ap₂ (λ (a : ℕ) (rest : List ℕ). a ∷ rest) (let e
 pub set_passed : (n t i : ℕ) → is_set (n / 2 ^ t / 2) i ≡ is_set n (t + 1 + i)
 set_passed n t i = ap (λ (m : ℕ). m % 2 == 1) (ap (λ (m : ℕ). m / 2 ^ i) (shr-shr n t 1) ∙ shr-shr n (t + 1) i)
 
-none_set : (i : ℕ) → is_set 0 i ≡ false
+pub none_set : (i : ℕ) → is_set 0 i ≡ false
 none_set i = ap (λ (n : ℕ). n == 1) (bit_at-zero i)
 
 nothing : (n : ℕ) → n ≡ 64 → set_in 0 ≡ []

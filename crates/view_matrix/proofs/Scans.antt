@@ -15,7 +15,7 @@ use Rattle.std.proofs.lemmas.List.Folds.{list_all-append}
 use Rattle.view_matrix.specs.Columns.{bit_in, is_set}
 use Rattle.view_matrix.specs.Scans.{bits_up_to}
 use Rattle.view_matrix.proofs.Bits.{with_set}
-use Rattle.view_matrix.proofs.Words.{set_and}
+use Rattle.view_matrix.proofs.Words.{set_and, set_or}
 
 -- ---- a bit more
 
@@ -36,6 +36,17 @@ more_set word place i n false within is =
     let none : 0 * 2 ^ place % 2 ^ 64 ≡ 0 = omega arith in
     ap (λ (k : ℕ). is_set (bit_or word (k * 2 ^ place % 2 ^ 64)) i) is ∙ ap (λ (k : ℕ). is_set (bit_or word k) i) none ∙ ap (λ (k : ℕ). is_set k i) (or_zero_r word)
     ∙ sym (or_false (is_set word i))
+
+-- ---- a mask more
+
+pub mask_taken : (word mask taken i : ℕ) (bit : Bool) → bit ≡ true → taken ≡ mask → is_set (bit_or word taken) i ≡ (is_set word i || (bit && is_set mask i))
+mask_taken word mask taken i bit is same =
+    ap (λ (k : ℕ). is_set (bit_or word k) i) same ∙ set_or word mask i ∙ ap (λ (b : Bool). is_set word i || (b && is_set mask i)) (sym is)
+
+pub none_taken : (word mask taken i : ℕ) (bit : Bool) → bit ≡ false → taken ≡ 0 → is_set (bit_or word taken) i ≡ (is_set word i || (bit && is_set mask i))
+none_taken word mask taken i bit is none =
+    ap (λ (k : ℕ). is_set (bit_or word k) i) none ∙ ap (λ (k : ℕ). is_set k i) (or_zero_r word) ∙ sym (or_false (is_set word i))
+    ∙ ap (λ (b : Bool). is_set word i || (b && is_set mask i)) (sym is)
 
 -- ---- the lowest bits
 

@@ -1,11 +1,11 @@
 -- Words and their bits.
-use Rattle.std.proofs.Common.{◌≡◌, ◌≢◌, ◌∙◌, ◌+◌, ◌*◌, ◌%◌, ◌^◌, ◌<◌, ◌≤◌, ◌==◌, ◌⊎◌, inl, inr, ℕ, Bool, true, false, cond, ◌&&◌, map, filter, count_by, min, refl, sym, ap, ap₂, arith, bit_and, bit_xor, count_ones}
+use Rattle.std.proofs.Common.{◌≡◌, ◌≢◌, ◌∙◌, ◌+◌, ◌-◌, ◌*◌, ◌%◌, ◌^◌, ◌<◌, ◌≤◌, ◌==◌, ◌⊎◌, inl, inr, ℕ, Bool, true, false, cond, not, ◌&&◌, ◌||◌, map, filter, count_by, min, max, refl, sym, ap, ap₂, arith, bit_and, bit_or, bit_xor, count_ones, w64}
 use mathlib.Core.Path.{fun_ext}
 use Rattle.std.specs.List.{range_with_len}
-use Rattle.std.specs.Int.{bit_at}
+use Rattle.std.specs.Int.{bit_at, bit_not}
 use Rattle.std.specs.Simd.Lanes.{mask_l}
 use Rattle.std.proofs.lemmas.Simd.{bit_mask_l, mask_l-lt, ones-mask_l}
-use Rattle.std.proofs.lemmas.Nat.Bits.{bit_at-lt, bit_at_above, bit_at_and, bit_at_xor, same_from_bits}
+use Rattle.std.proofs.lemmas.Nat.Bits.{bit_at-lt, bit_at_above, bit_at_and, bit_at_or, bit_at_xor, bit_at_not, same_from_bits}
 use Rattle.std.proofs.lemmas.Bool.Decides.{eqb_tells}
 use Rattle.std.proofs.lemmas.List.FromFn.{get_or-map-range_with_len, length-map-range_with_len}
 use Rattle.view_matrix.specs.Columns.{is_set, places, set_in, word_of}
@@ -52,6 +52,16 @@ and_bits true false = refl
 and_bits false true = refl
 and_bits false false = refl
 
+or_bits : (a b : Bool) → (max (cond a 1 0) (cond b 1 0) == 1) ≡ (a || b)
+or_bits true true = refl
+or_bits true false = refl
+or_bits false true = refl
+or_bits false false = refl
+
+not_bit : (b : Bool) → (1 - cond b 1 0 == 1) ≡ not b
+not_bit true = refl
+not_bit false = refl
+
 xor_bits : (a b : Bool) → ((cond a 1 0 + cond b 1 0) % 2 == 1) ≡ differ a b
 xor_bits true true = refl
 xor_bits true false = refl
@@ -60,6 +70,13 @@ xor_bits false false = refl
 
 pub set_and : (a b i : ℕ) → is_set (bit_and a b) i ≡ (is_set a i && is_set b i)
 set_and a b i = ap (λ (n : ℕ). n == 1) (bit_at_and a b i ∙ ap₂ min (bit_is a i) (bit_is b i)) ∙ and_bits (is_set a i) (is_set b i)
+
+pub set_or : (a b i : ℕ) → is_set (bit_or a b) i ≡ (is_set a i || is_set b i)
+set_or a b i = ap (λ (n : ℕ). n == 1) (bit_at_or a b i ∙ ap₂ max (bit_is a i) (bit_is b i)) ∙ or_bits (is_set a i) (is_set b i)
+
+-- the complement in 64 bits
+pub set_not : (n i : ℕ) → n < 2 ^ 64 → i < 64 → is_set (bit_not w64 n) i ≡ not (is_set n i)
+set_not n i small lt = ap (λ (m : ℕ). m == 1) (bit_at_not w64 n i small lt ∙ ap (λ (m : ℕ). 1 - m) (bit_is n i)) ∙ not_bit (is_set n i)
 
 pub set_xor : (a b i : ℕ) → is_set (bit_xor a b) i ≡ differ (is_set a i) (is_set b i)
 set_xor a b i = ap (λ (n : ℕ). n == 1) (bit_at_xor a b i ∙ ap₂ (λ (m n : ℕ). (m + n) % 2) (bit_is a i) (bit_is b i)) ∙ xor_bits (is_set a i) (is_set b i)

@@ -1,11 +1,12 @@
 //! Bounds of the number that an edge has in a column, as comparisons of the column with numbers set them.
 
-ghost use Rattle.std.specs.Prelude.{◌≡◌, ◌<◌, ℕ, ℤ, ◌&&◌, IfSome};
+ghost use Rattle.std.specs.Prelude.{◌≡◌, ◌<◌, ℕ, ℤ, not, ◌&&◌, if◌then◌else◌, IfSome};
 ghost use Rattle.std.specs.declared.cmp.Ordering.{Ordering};
 ghost use Rattle.std.specs.Ordering.{int_cmp, ordering_reverse};
 ghost use Rattle.graph_model.specs.GraphData.{GraphData, Cell};
 ghost use Rattle.edge_predicates.specs.Truth.{agrees, cells_compare, read_at};
-ghost use Rattle.view_matrix.specs.Bounds.{admits, meets, meets_at};
+ghost use Rattle.view_matrix.specs.Bounds.{admits, lies_within, meets, meets_at};
+ghost use Rattle.view_matrix.specs.Columns.{is_set};
 
 use edge_predicates::{Cmp, Place};
 
@@ -20,16 +21,20 @@ pub(crate) struct Bounds {
 }
 
 impl Bounds {
-    /// Whether a number lies in them.
-    pub(crate) fn admits(self, number: i64) -> bool
-        ensures { result ≡ admits self number }
+    /// Whether a number is from `low` to `high`, be they inside or not.
+    pub(crate) fn encloses(self, number: i64) -> bool
+        ensures { result ≡ lies_within self.low self.high number }
     {
-        let lies_within = (self.low <= number) & (number <= self.high);
-        if self.inside {
-            lies_within
-        } else {
-            !lies_within
-        }
+        // One comparison of a number in place of two: all are moved by as much as makes `low` the least `i64`.
+        let moved = self.low.wrapping_sub(i64::MIN);
+        (self.low <= self.high) & (number.wrapping_sub(moved) <= self.high.wrapping_sub(moved))
+    }
+
+    /// Of 64 numbers whether each lies in them, as a word, from the word that says of each whether they enclose it.
+    pub(crate) fn admitted(self, enclosed: u64) -> u64
+        ensures { (i : ℕ) → i < 64 → is_set result i ≡ (if self.inside then is_set enclosed i else not (is_set enclosed i)) }
+    {
+        if self.inside { enclosed } else { !enclosed }
     }
 
     /// Bounds that say what both say. There are none where the columns differ, or one of them is not inside.

@@ -4,10 +4,10 @@ ghost use Rattle.std.specs.Prelude.{◌≡◌, ◌<◌, ◌≤◌, ◌+◌, ◌&
 ghost use Rattle.graph_model.specs.GraphData.{GraphData, cell_of};
 ghost use Rattle.view_matrix.specs.Columns.{is_set};
 ghost use Rattle.view_matrix.specs.Bounds.{admits, meets, meets_at};
-ghost use Rattle.view_matrix.specs.Numbers.{AreNumbers, AreOfEdges, ShowCells};
+ghost use Rattle.view_matrix.specs.Numbers.{AreMasks, AreNumbers, AreOfEdges, ShowCells};
 
 use crate::bounds::Bounds;
-use crate::word::{more_bit, with_bit};
+use crate::word::{more_bit, with_bit, with_mask};
 use graph_model::{CellRef, EdgeNo, Graph};
 use std::alloc::Global;
 use surge_outside::NoMemory;
@@ -21,6 +21,19 @@ pub(crate) struct Numbers {
     numbers: Vec<i64>,
     /// A bit for each edge: whether its cell is a number.
     present: u64,
+    /// For each of 64 places the word of which the bit at that place alone is set.
+    masks: Vec<u64>,
+}
+
+// For each of 64 places the word of which the bit at that place alone is set.
+fn place_masks(alloc: Global) -> Result<Vec<u64>, NoMemory>
+    ensures { IfOk result (λ masks. AreMasks masks.items) }
+{
+    let mut masks = vec![in alloc; 0u64; 64]?;
+    for place in 0..64u32 {
+        masks[place as usize] = more_bit(0, place, true);
+    }
+    Ok(masks)
 }
 
 // The number in a cell, and whether there is one.
@@ -59,12 +72,14 @@ impl Numbers {
         ensures { IfOk result (λ numbers. (g : GraphData) → AreNumbers g numbers) }
     {
         let numbers = vec![in alloc; 0i64; 64]?;
+        let masks = place_masks(alloc)?;
         Ok(Numbers {
             first: 0,
             count: 0,
             column: 0,
             numbers,
             present: 0,
+            masks,
         })
     }
 
@@ -92,11 +107,17 @@ impl Numbers {
         requires column { bounds.column ≡ self.now.column }
         ensures { (i : ℕ) → is_set result i ≡ (nat_lt i self.now.count && meets_at graph.now (self.now.first + i) bounds) }
     {
-        // All 64 places are compared, so that the count is fixed and the loop unrolled; `present` clears the rest.
-        let mut word = 0;
+        // All 64 places are compared, so that the count is fixed and the loop unrolled; `present` clears the rest. Each
+        // mask is read before its number is compared: so it is selected by the answer, and nothing branches.
+        let mut enclosed = 0;
         for place in 0..64u32 {
-            word = more_bit(word, place, bounds.admits(self.numbers[place as usize]));
+            let mask = self.masks[place as usize];
+            enclosed = with_mask(
+                enclosed,
+                mask,
+                bounds.encloses(self.numbers[place as usize]),
+            );
         }
-        word & self.present
+        bounds.admitted(enclosed) & self.present
     }
 }

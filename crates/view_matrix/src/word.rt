@@ -28,6 +28,13 @@ pub(crate) fn more_bit(word: u64, place: u32, bit: bool) -> u64
     word | (u64::from(bit) << place)
 }
 
+/// The word with the bits of a mask more, where this bit is set.
+pub(crate) fn with_mask(word: u64, mask: u64, bit: bool) -> u64
+    ensures { (i : ℕ) → is_set result i ≡ (is_set word i || (bit && is_set mask i)) }
+{
+    word | if bit { mask } else { 0 }
+}
+
 /// The word whose so many lowest bits are set.
 pub(crate) fn lowest_bits(count: u32) -> u64
     requires some { 1 ≤ count }

@@ -1,8 +1,8 @@
--- One of the bounds more.
-use Rattle.std.proofs.Common.{◌≡◌, ◌∙◌, ◌+◌, ◌&&◌, ℕ, pos, false, ap₂, get_or}
+-- One of the bounds more, and all of them.
+use Rattle.std.proofs.Common.{◌≡◌, ◌∙◌, ◌+◌, ◌&&◌, ℕ, List, pos, false, ap, ap₂, arith, get_or, take_all}
 use Rattle.std.specs.Prelude.{nat_lt}
 use Rattle.view_matrix.specs.declared.bounds.Bounds.{Bounds}
-use Rattle.view_matrix.specs.Bounds.{meets_at}
+use Rattle.view_matrix.specs.Bounds.{all_meet, meets_at}
 use Rattle.view_matrix.specs.Columns.{is_set}
 use Rattle.view_matrix.proofs.Scans.{next_bounds}
 use Rattle.view_matrix.proofs.scan.meeting_all.Goals as goal
@@ -19,3 +19,8 @@ loop-bounds-preserved c =
           next_bounds (meets_at c.args.graph.now (c.args.first + i)) c.args.all.now c.loop-bounds.bounds-index none c.loop-bounds.word c.meeting_word-word.result i c.args.count
           c.loop-bounds-test.true (c.loop-bounds.invariant.word i) (more i);
     }
+
+pub returns-clause-word : goal.returns-clause-word
+returns-clause-word c = λ i.
+    c.loop-bounds.invariant.word i
+    ∙ ap (λ (bounds : List Bounds). nat_lt i c.args.count && all_meet c.args.graph.now (c.args.first + i) bounds) (take_all c.loop-bounds.bounds-index c.args.all.now (omega (arith, c.loop-bounds-test.false)))
