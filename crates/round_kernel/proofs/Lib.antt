@@ -10,6 +10,7 @@ pub mod Changing
 pub mod Visiting
 pub mod Filling
 pub mod Sending
+pub mod Messages
 pub mod Counted
 pub mod Standing
 pub mod Copies

@@ -1,5 +1,5 @@
 -- Messages of which the form is known.
-use Rattle.std.specs.Prelude.{◌≡◌, ⊤, ℕ, pos, true}
+use Rattle.std.specs.Prelude.{◌≡◌, ⊤, ℕ, ℤ, pos, true, Option, Some, None}
 use Rattle.graph_model.specs.declared.value.Val.{Val}
 use Rattle.graph_model.specs.declared.value.Val.TheVariants.{Num}
 use Rattle.graph_model.specs.GraphData.{GraphData}
@@ -15,3 +15,12 @@ HasForm p forms.Value = (graph : GraphData) (u : ℕ) (v : Val) (d e : ℕ) → 
 HasForm p (forms.Plus n) = (graph : GraphData) (u : ℕ) (v : Val) (d e : ℕ) → sent_by p graph u v d e ≡ added true v (Num n)
 HasForm p forms.Share = (graph : GraphData) (u : ℕ) (v : Val) (d e : ℕ) → sent_by p graph u v d e ≡ divided v (Num (pos d))
 HasForm p forms.Other = ⊤
+
+-- a message that is made from the value alone: the value, or the value and a number added
+abbrev pub message_with : Option ℤ → Val → Val
+message_with None v = v
+message_with (Some n) v = added true v (Num n)
+
+-- all messages are made so
+abbrev pub AreMadeWith : Program → Option ℤ → Type 0
+AreMadeWith p more = (graph : GraphData) (u : ℕ) (v : Val) (d e : ℕ) → sent_by p graph u v d e ≡ message_with more v

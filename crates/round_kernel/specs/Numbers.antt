@@ -1,5 +1,5 @@
 -- Lists of values as numbers, and what arcs bring that are read from them.
-use Rattle.std.specs.Prelude.{◌≡◌, ◌≢◌, ◌<◌, ℕ, ℤ, Bool, true, if◌then◌else◌, List, length, map, filter}
+use Rattle.std.specs.Prelude.{◌≡◌, ◌≢◌, ◌<◌, ℕ, ℤ, Bool, true, if◌then◌else◌, List, length, map, filter, Option}
 use Rattle.graph_model.specs.declared.number.NodeNo.{NodeNo}
 use Rattle.graph_model.specs.declared.value.Val.{Val}
 use Rattle.graph_model.specs.declared.value.Val.TheVariants.{Nil}
@@ -14,11 +14,17 @@ use Rattle.round_kernel.specs.declared.history.Change.{Change}
 use Rattle.round_kernel.specs.Histories.{is_changed}
 use Rattle.round_kernel.specs.Codes.{value_in, code_of, number_at}
 use Rattle.round_kernel.specs.Sides.{in_view}
+use Rattle.round_kernel.specs.Forms.{message_with}
 
 -- they are the numbers of these values
 pub record AreNumbers (values : List Val) (numbers : List ℤ) : Type 0 where
   pub size : length numbers ≡ length values
   pub each : (u : ℕ) → u < length values → number_at numbers u ≡ value_at values u
+
+-- they are the numbers of the messages that these values make
+pub record AreMessages (more : Option ℤ) (values : List Val) (numbers : List ℤ) : Type 0 where
+  pub size : length numbers ≡ length values
+  pub each : (u : ℕ) → u < length values → number_at numbers u ≡ message_with more (value_at values u)
 
 -- those of the nodes in the list are of these values, and the others are as they were
 pub record AreRenewed (values : List Val) (changes : List Change) (before after : List ℤ) : Type 0 where

@@ -1,12 +1,17 @@
 //! Numbers that stand for values, of four bytes each as long as all of them fit: so those of many nodes stay near.
 
-ghost use Rattle.std.specs.Prelude.{◌≡◌, ◌<◌, ◌^◌, [], length, get_or, map, pos, slice_set, All, IfOk, IfSome, IsTrue};
+ghost use Rattle.std.specs.Prelude.{◌≡◌, ◌<◌, ◌^◌, [], List, length, get_or, map, pos, slice_set, All, IfOk, IfSome, IsTrue};
+ghost use Rattle.graph_model.specs.declared.value.Val.{Val};
 ghost use Rattle.round_kernel.specs.Codes.{value_in};
-ghost use Rattle.round_kernel.specs.Numbers.{sent_from};
+ghost use Rattle.round_kernel.specs.Histories.{HasChanges};
+ghost use Rattle.round_kernel.specs.Numbers.{AreMessages, IsPut, sent_from};
 ghost use Rattle.round_kernel.specs.ShortCodes.{widened};
 ghost use Rattle.round_kernel.specs.Spans.{IsSpan};
 ghost use Rattle.round_kernel.specs.Tallies.{tally_of};
 
+use crate::history::Change;
+use crate::numbers::number_of;
+use crate::sent::message_with;
 use crate::span::{NONE, Span};
 use crate::tally::Tally;
 use graph_model::{NodeNo, Val};
@@ -92,6 +97,21 @@ impl Codes {
         false
     }
 
+    /// Gives each node that changes its new value, and the number of its new message, which is the value or the value and a
+    /// number added. It tells whether each of these numbers fits.
+    pub(crate) fn follow(&mut self, added: Option<i64>, now: &mut [Val], changes: &[Change]) -> bool
+        requires within { All (λ c. c.node.0 < length now.old) changes.now }
+        requires messages { AreMessages added now.old self.old }
+        ensures size { length now.new ≡ length now.old }
+        ensures values { (after : List Val) → length after ≡ length now.old → HasChanges (length now.old) now.old after changes.now → now.new ≡ after }
+        ensures messages { IsTrue result → AreMessages added now.new self.new }
+    {
+        match &mut self.held {
+            Held::Short(list) => follow_short(added, now, list, changes),
+            Held::Long(list) => follow_long(added, now, list, changes),
+        }
+    }
+
     /// The number at this place.
     pub(crate) fn at(&self, place: usize) -> i64
         requires { place < length self.now }
@@ -114,6 +134,77 @@ impl Codes {
             Held::Short(list) => tally_short(kind, list, tails),
             Held::Long(list) => tally_long(kind, list, tails),
         }
+    }
+}
+
+// Gives each node that changes its new value and message, held in four bytes.
+fn follow_short(
+    added: Option<i64>,
+    now: &mut [Val],
+    numbers: &mut [i32],
+    changes: &[Change],
+) -> bool
+    requires within { All (λ c. c.node.0 < length now.old) changes.now }
+    requires messages { AreMessages added now.old (map widened numbers.old) }
+    ensures size { length now.new ≡ length now.old }
+    ensures values { (after : List Val) → length after ≡ length now.old → HasChanges (length now.old) now.old after changes.now → now.new ≡ after }
+    ensures messages { IsTrue result → AreMessages added now.new (map widened numbers.new) }
+{
+    let mut kept = true;
+    for change in changes {
+        let place = change.node.0 as usize;
+        now[place] = change.value;
+        if kept {
+            kept = put_short(numbers, place, message_with(added, change.value));
+        }
+    }
+    kept
+}
+
+// Keeps a message for a node, and tells whether it has a number that fits.
+fn put_short(numbers: &mut [i32], place: usize, message: Val) -> bool
+    requires { place < length numbers.old }
+    ensures { IsTrue result → IsPut place message (map widened numbers.old) (map widened numbers.new) }
+{
+    match short_code(message) {
+        Some(short) => {
+            numbers[place] = short;
+            true
+        }
+        None => false,
+    }
+}
+
+// The same, held in eight bytes.
+fn follow_long(added: Option<i64>, now: &mut [Val], numbers: &mut [i64], changes: &[Change]) -> bool
+    requires within { All (λ c. c.node.0 < length now.old) changes.now }
+    requires messages { AreMessages added now.old numbers.old }
+    ensures size { length now.new ≡ length now.old }
+    ensures values { (after : List Val) → length after ≡ length now.old → HasChanges (length now.old) now.old after changes.now → now.new ≡ after }
+    ensures messages { IsTrue result → AreMessages added now.new numbers.new }
+{
+    let mut kept = true;
+    for change in changes {
+        let place = change.node.0 as usize;
+        now[place] = change.value;
+        if kept {
+            kept = put_long(numbers, place, message_with(added, change.value));
+        }
+    }
+    kept
+}
+
+// Keeps a message for a node, and tells whether it has a number.
+fn put_long(numbers: &mut [i64], place: usize, message: Val) -> bool
+    requires { place < length numbers.old }
+    ensures { IsTrue result → IsPut place message numbers.old numbers.new }
+{
+    match number_of(message) {
+        Some(number) => {
+            numbers[place] = number;
+            true
+        }
+        None => false,
     }
 }
 

@@ -7,7 +7,7 @@ ghost use Rattle.vertex_lang.specs.declared.program.Expr.TheVariants.{Number, Ou
 ghost use Rattle.vertex_lang.specs.Expressions.{sent_by};
 ghost use Rattle.vertex_lang.specs.Leaves.{IsChecked};
 ghost use Rattle.vertex_lang.specs.Values.{added, clamped, divided};
-ghost use Rattle.round_kernel.specs.Forms.{HasForm};
+ghost use Rattle.round_kernel.specs.Forms.{HasForm, AreMadeWith, message_with};
 
 use crate::tally::clamp_number;
 use graph_model::{EdgeNo, Graph, NodeNo, Val};
@@ -96,6 +96,27 @@ pub(crate) fn form_of(program: &Program) -> Form
     }
 }
 
+/// Where messages are made from the value alone, the number that is added to it, if one is.
+pub(crate) fn added_by(form: Form) -> Option<Option<i64>>
+    ensures { IfSome result (λ more. (p : Program) → HasForm p form → AreMadeWith p more) }
+{
+    match form {
+        Form::Value => Some(None),
+        Form::Plus(number) => Some(Some(number)),
+        _ => None,
+    }
+}
+
+/// The message that is made from the value alone: the value, or the value and a number added.
+pub(crate) fn message_with(added: Option<i64>, value: Val) -> Val
+    ensures { result ≡ message_with added value }
+{
+    match added {
+        Some(number) => plus(value, number),
+        None => value,
+    }
+}
+
 // Where a number alone is added, that.
 fn only_number(rest: &[(bool, Expr)]) -> Option<i64>
     ensures { IfSome result (λ n. rest.now ≡ (true, Number n) ∷ []) }
@@ -136,7 +157,7 @@ fn plus(value: Val, number: i64) -> Val
 {
     match value {
         Val::Nil => Val::Nil,
-        Val::Num(given) => Val::Num(clamp_number(i128::from(given) + i128::from(number))),
+        Val::Num(given) => Val::Num(given.saturating_add(number).max(-GREATEST)),
     }
 }
 

@@ -18,7 +18,7 @@ use crate::codes::{Codes, lengthened, short_code};
 use crate::history::Change;
 use crate::message::is_other;
 use crate::numbers::number_of;
-use crate::sent::{Form, form_of, send_by};
+use crate::sent::{Form, added_by, form_of, send_by};
 use graph_model::{EdgeNo, Graph, NodeNo, Val};
 use std::alloc::Global;
 use std::rc::Rc;
@@ -207,7 +207,8 @@ pub(crate) fn apply(
     send_again(alloc, program, graph, now, degrees, sent)
 }
 
-// The same, but messages aren't kept any more where one doesn't fit.
+// The same, but messages aren't kept any more where one doesn't fit. Those that are made from the value alone are made in a loop
+// of their own, which asks neither for the form nor for the number of arcs.
 fn apply_all(
     program: &Program,
     graph: &Graph,
@@ -228,32 +229,16 @@ fn apply_all(
     ensures only { IsTrue result → IsTrue alike }
     ensures sent { AreSent result program.now graph.now degrees.now now.new sent.new }
 {
-    match form_of(program) {
-        Form::Value => apply_by(
-            Form::Value,
-            program,
-            graph,
-            alike,
-            degrees,
-            now,
-            sent,
-            changes,
-        ),
-        Form::Plus(number) => apply_by(
-            Form::Plus(number),
-            program,
-            graph,
-            alike,
-            degrees,
-            now,
-            sent,
-            changes,
-        ),
-        form => apply_by(form, program, graph, alike, degrees, now, sent, changes),
+    let form = form_of(program);
+    if alike {
+        if let Some(added) = added_by(form) {
+            return sent.follow(added, now, changes);
+        }
     }
+    apply_by(form, program, graph, alike, degrees, now, sent, changes)
 }
 
-// The same, given the form of the message.
+// The same, whatever the form of the message.
 fn apply_by(
     form: Form,
     program: &Program,
