@@ -1,0 +1,183 @@
+#!/usr/bin/env python3
+"""What the gate costs: processor minutes of each room's proof, of its tests and of its edits, and their ratios to all proofs.
+
+    tests/gate_minutes.py record FILE COMMAND..   runs a command, as `rt ci` or `rt must-fail NAME`, and notes in FILE what each of its provers took
+    tests/gate_minutes.py table FILE..            prints docs/ARCHITECTURE.md's table of what was noted
+    tests/gate_minutes.py order FILE..            prints tools/proof_minutes.txt
+    tests/gate_minutes.py edits FILE..            prints what each edit took
+
+It looks twice a second at the processes below the command. Where several files are given their rooms are put together: of a room's proof,
+its tests and its edits the file that is named last and has them counts.
+"""
+
+import collections
+import json
+import os
+import subprocess
+import sys
+import time
+
+TOP = os.path.dirname(os.path.dirname(os.path.realpath(__file__)))
+TICK = os.sysconf("SC_CLK_TCK")
+KINDS = ("proof", "tests", "edits")
+# What all edits and all tests may take, and the whole, of all proofs.
+BOUNDS = {"edits": 0.7, "tests": 0.6, "whole": 2.3}
+# Rooms that take less are one row of the table.
+SHOWN = 1.0
+
+
+def told(path):
+    try:
+        with open(path, "rb") as it:
+            return it.read()
+    except OSError:
+        return b""
+
+
+def processes():
+    """Returns each process: its parent, its processor seconds with those of children that it waited for, and when it began."""
+    found = {}
+    for name in os.listdir("/proc"):
+        if name.isdigit():
+            line = told(f"/proc/{name}/stat").decode(errors="replace")
+            words = line[line.rfind(")") + 2 :].split()
+            if len(words) > 20:
+                found[int(name)] = (int(words[1]), (int(words[11]) + int(words[12])) / TICK, words[19])
+    return found
+
+
+def below(root, found):
+    """Returns the processes that stand below another."""
+    children = collections.defaultdict(list)
+    for process, (parent, _, _) in found.items():
+        children[parent].append(process)
+    left, inside = [root], []
+    while left:
+        for it in children[left.pop()]:
+            inside.append(it)
+            left.append(it)
+    return inside
+
+
+def work_of(process):
+    """Returns the room that a prover works at, whether at its proof, its tests or an edit, and which edit, or None if it is no prover."""
+    words = told(f"/proc/{process}/cmdline").decode(errors="replace").split("\0")
+    if "--crate-name" not in words:
+        return None
+    room = words[words.index("--crate-name") + 1]
+    try:
+        folder = os.readlink(f"/proc/{process}/cwd")
+    except OSError:
+        return None
+    over = words[words.index("--incremental") + 1] if "--incremental" in words else ""
+    if "/rt-edit-" in folder:
+        return [room, "edits", os.path.basename(over) or "alone"]
+    return [room, "tests" if "--test" in words else "proof", ""]
+
+
+def record(file, command):
+    """Runs a command, notes what its provers took, and returns its status."""
+    begun, seen, worked = time.time(), {}, {}
+    ran = subprocess.Popen(command)
+    while True:
+        is_over = ran.poll() is not None
+        found = processes()
+        for it in below(ran.pid, found):
+            key = it, found[it][2]
+            if key not in worked:
+                worked[key] = work_of(it)
+            if worked[key]:
+                seen[key] = [*worked[key], found[it][1]]
+        if is_over or int(time.time() * 2) % 20 == 0:
+            with open(f"{file}.new", "w", encoding="utf-8") as to:
+                json.dump({"wall": time.time() - begun, "work": list(seen.values())}, to)
+            os.replace(f"{file}.new", file)
+        if is_over:
+            return ran.returncode
+        time.sleep(0.5)
+
+
+def minutes_in(files):
+    """Returns by room and kind the minutes that the files tell, and by room and number those of the edits."""
+    whole, edits = collections.defaultdict(dict), {}
+    for file in files:
+        with open(file, encoding="utf-8") as it:
+            work = json.load(it)["work"]
+        sums, parts = collections.Counter(), collections.Counter()
+        for room, kind, edit, seconds in work:
+            sums[room, kind] += seconds / 60
+            parts[room, edit] += seconds / 60 if kind == "edits" else 0
+        for (room, kind), minutes in sums.items():
+            whole[room][kind] = minutes
+        edits.update({key: minutes for key, minutes in parts.items() if key[1]})
+    return whole, edits
+
+
+def rooms_here():
+    with open(f"{TOP}/crates.txt", encoding="utf-8") as lines:
+        return [it.split(":")[0].split()[0] for it in lines if ":" in it.split("#")[0]]
+
+
+def row(name, minutes):
+    told_minutes = [minutes.get(it, 0) for it in KINDS]
+    shown = [f"{it:.1f}" if it >= 0.05 else "" for it in told_minutes]
+    return f"| {name} | {' | '.join(shown)} | {sum(told_minutes):.1f} |"
+
+
+def table(files):
+    whole, _ = minutes_in(files)
+    rooms = {it: whole.get(it, {}) for it in rooms_here()}
+    total = lambda them: {kind: sum(it.get(kind, 0) for it in them) for kind in KINDS}
+    large = sorted((it for it in rooms if sum(rooms[it].values()) >= SHOWN), key=lambda it: -sum(rooms[it].values()))
+    small = [rooms[it] for it in rooms if it not in large]
+    print("| Room | Its proof | With its tests, the room once more | Its edits | All |\n|---|---|---|---|---|")
+    for it in large:
+        print(row(f"`{it}`", rooms[it]))
+    print(row(f"{len(small)} more", total(small)))
+    every = total(rooms.values())
+    print(row(f"all {len(rooms)} rooms", every))
+    proofs = max(every["proof"], 1e-9)
+    ratios = {"edits": every["edits"] / proofs, "tests": every["tests"] / proofs, "whole": sum(every.values()) / proofs}
+    print("\n| Of all proofs | Now | At most |\n|---|---|---|")
+    for name, text in (("edits", "all edits"), ("tests", "all tests"), ("whole", "the whole")):
+        print(f"| {text} | {ratios[name]:.2f} | {BOUNDS[name]} |")
+
+
+def order(files):
+    whole, _ = minutes_in(files)
+    print("# Processor minutes of the proof of each room, as tests/gate_minutes.py measured them. tools/build.py orders the first build by them.")
+    for room in sorted(rooms_here(), key=lambda it: -whole.get(it, {}).get("proof", 0)):
+        print(f"{room} {max(0.1, whole.get(room, {}).get('proof', 0.1)):.1f}")
+
+
+def edit_names(room):
+    folder = f"{TOP}/crates/{room}/must-fail"
+    return sorted(it[: -len(".edit")] for it in os.listdir(folder) if it.endswith(".edit")) if os.path.isdir(folder) else []
+
+
+def edits(files):
+    _, parts = minutes_in(files)
+    for (room, number), minutes in sorted(parts.items()):
+        names = edit_names(room)
+        if number.isdigit() and int(number) < len(names):
+            number = names[int(number)]
+        elif number == "alone" and len(names) == 1:
+            number = f"{names[0]} (from nothing)"
+        elif number == "seed":
+            number = "what its edits begin with"
+        print(f"{60 * minutes:6.0f} s  {room}  {number}")
+
+
+def main(words):
+    if len(words) >= 3 and words[0] == "record":
+        return record(words[1], words[2:])
+    shown = {"table": table, "order": order, "edits": edits}
+    if len(words) >= 2 and words[0] in shown:
+        shown[words[0]](words[1:])
+        return 0
+    print(__doc__, file=sys.stderr)
+    return 2
+
+
+if __name__ == "__main__":
+    sys.exit(main(sys.argv[1:]))
