@@ -161,6 +161,9 @@ class Lane:
         for it in all_below(self.rooms, room):
             if not os.path.isdir(f"{self.out(it)}/rlib"):
                 linked(f"{TOP}/crates/{it}/out/rlib", f"{self.out(it)}/rlib")
+        # (what was built elsewhere, as by `rt check` of a room above, serves if its text is the same)
+        if os.path.isdir(f"{TOP}/crates/{room}/out/rlib"):
+            linked(f"{TOP}/crates/{room}/out/rlib", f"{self.out(room)}/rlib")
         moved(f"{TOP}/crates/{room}/out/incremental", f"{self.out(room)}/incremental")
         self.log = tempfile.TemporaryFile("w+", errors="replace")
         how = {"stdin": subprocess.DEVNULL, "stdout": self.log, "stderr": self.log, "start_new_session": True}
