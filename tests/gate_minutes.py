@@ -2,6 +2,7 @@
 """What the gate costs: processor minutes of each room's proof, of its tests and of its edits, and their ratios to all proofs.
 
     tests/gate_minutes.py record FILE COMMAND..   runs a command, as `rt ci` or `rt must-fail NAME`, and notes in FILE what each of its provers took
+    tests/gate_minutes.py watch FILE PROCESS      notes it of the provers below a process, until it is told to end
     tests/gate_minutes.py table FILE..            prints docs/ARCHITECTURE.md's table of what was noted
     tests/gate_minutes.py order FILE..            prints tools/proof_minutes.txt
     tests/gate_minutes.py edits FILE..            prints what each edit took
@@ -13,6 +14,7 @@ its tests and its edits the file that is named last and has them counts.
 import collections
 import json
 import os
+import signal
 import subprocess
 import sys
 import time
@@ -75,26 +77,52 @@ def work_of(process):
     return [room, "tests" if "--test" in words else "proof", ""]
 
 
+class Notes:
+    """What the provers below a process took so far."""
+
+    def __init__(self, file, root):
+        self.file, self.root, self.begun = file, root, time.time()
+        self.works, self.took = {}, {}
+
+    def look(self):
+        found = processes()
+        for it in below(self.root, found):
+            key = it, found[it][2]
+            if key not in self.works:
+                self.works[key] = work_of(it)
+            if self.works[key]:
+                self.took[key] = [*self.works[key], found[it][1]]
+
+    def write(self):
+        with open(f"{self.file}.new", "w", encoding="utf-8") as to:
+            json.dump({"wall": time.time() - self.begun, "work": list(self.took.values())}, to)
+        os.replace(f"{self.file}.new", self.file)
+
+    def keep_on(self, is_over):
+        """Looks until it is over, and writes now and then and at the end."""
+        written = time.time()
+        while not is_over():
+            self.look()
+            if time.time() > written + 10:
+                self.write()
+                written = time.time()
+            time.sleep(0.5)
+        self.write()
+
+
 def record(file, command):
     """Runs a command, notes what its provers took, and returns its status."""
-    begun, seen, worked = time.time(), {}, {}
     ran = subprocess.Popen(command)
-    while True:
-        is_over = ran.poll() is not None
-        found = processes()
-        for it in below(ran.pid, found):
-            key = it, found[it][2]
-            if key not in worked:
-                worked[key] = work_of(it)
-            if worked[key]:
-                seen[key] = [*worked[key], found[it][1]]
-        if is_over or int(time.time() * 2) % 20 == 0:
-            with open(f"{file}.new", "w", encoding="utf-8") as to:
-                json.dump({"wall": time.time() - begun, "work": list(seen.values())}, to)
-            os.replace(f"{file}.new", file)
-        if is_over:
-            return ran.returncode
-        time.sleep(0.5)
+    Notes(file, ran.pid).keep_on(lambda: ran.poll() is not None)
+    return ran.returncode
+
+
+def watch(file, process):
+    """Notes what the provers below a process take, until this is told to end or the process did."""
+    told_to_end = []
+    signal.signal(signal.SIGTERM, lambda number, _: told_to_end.append(number))
+    Notes(file, int(process)).keep_on(lambda: told_to_end or not os.path.isdir(f"/proc/{process}"))
+    return 0
 
 
 def minutes_in(files):
@@ -171,6 +199,8 @@ def edits(files):
 def main(words):
     if len(words) >= 3 and words[0] == "record":
         return record(words[1], words[2:])
+    if len(words) == 3 and words[0] == "watch":
+        return watch(*words[1:])
     shown = {"table": table, "order": order, "edits": edits}
     if len(words) >= 2 and words[0] in shown:
         shown[words[0]](words[1:])
