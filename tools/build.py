@@ -247,13 +247,15 @@ class Build:
     def running(self):
         return [it for it in self.lanes if it.room]
 
-    def processes_for(self, room, others):
-        """Returns how many processes prove a room while so many others are ready: its share of the processors that are free, and more where its way is long."""
+    def processes_for(self, room, at, ready):
+        """Returns how many processes prove a room: as many as its way is longer than a processor's share of all that is left, and of the rooms that are ready
+        the first, which has the longest way, gets the processors that none of the others takes. (Each further process costs a part of what it brings.)"""
         free = self.lane_count - sum(it.processes for it in self.running())
         left = sum(self.minutes[it] for it in [*self.waiting, *[it.room for it in self.running()]])
         way = self.ways[room]
         wanted = round(self.lane_count * way / max(left, way))
-        return max(1, min(max(wanted, free // (others + 1)), self.lane_count, MOST_PROCESSES))
+        spare = free - (len(ready) - 1) if at == 0 else 1
+        return max(1, min(max(wanted, spare), self.lane_count, MOST_PROCESSES))
 
     def begin_ready(self):
         """Begins each room whose libraries are proved, those with the longest way first, as many as there are lanes."""
@@ -261,7 +263,7 @@ class Build:
         for at, room in enumerate(ready):
             if len(self.running()) >= self.lane_count:
                 return
-            processes = self.processes_for(room, len(ready) - at - 1)
+            processes = self.processes_for(room, at, ready)
             self.waiting.remove(room)
             self.lane().begin(room, processes)
 
