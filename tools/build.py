@@ -253,7 +253,7 @@ class Build:
         free = self.lane_count - sum(it.processes for it in self.running())
         left = sum(self.minutes[it] for it in [*self.waiting, *[it.room for it in self.running()]])
         way = self.ways[room]
-        wanted = round(self.lane_count * way / max(left, way))
+        wanted = int(self.lane_count * way / max(left, way) + 0.25)
         spare = free - (len(ready) - 1) if at == 0 else 1
         return max(1, min(max(wanted, spare), self.lane_count, MOST_PROCESSES))
 
