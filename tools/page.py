@@ -80,6 +80,7 @@ def runs_of(files, choice, windows):
     runs, open_runs = [], {}
     for part in reading.parts_of(files):
         if part.kind != "table" or not choice.takes(part):
+            choice.kinds[part.kind] = None
             continue
         key = part.collection, part.program
         run = open_runs.get(key)
@@ -88,7 +89,7 @@ def runs_of(files, choice, windows):
             runs.append(run)
         run.add(part, windows.label(part.collection, part.view) if windows else part.view)
     if not runs:
-        raise choice.nothing()
+        raise reading.BadLine(choice.nothing())
     return runs
 
 
