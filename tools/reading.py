@@ -1,0 +1,330 @@
+"""What the tools share: reading what `surge` prints, the names of nodes, and the windows of a script. No command of its own."""
+
+import array
+import csv
+import gzip
+import io
+import os
+import re
+import signal
+import sys
+
+from gvdl import script_of
+
+# COLLECTION.VIEW, the call in its canonical form, and how the run of the view ended; with the mode `summary` what the table holds.
+HEAD = re.compile(
+    r"view (?P<collection>[A-Za-z_][\w-]*)\.(?P<view>[A-Za-z_][\w-]*) (?P<program>.+?) "
+    r"(?P<outcome>settled [0-9]+|after [0-9]+|unsettled)"
+    r"(?P<summary> edges (?P<edges>[0-9]+)(?: values (?P<values>[0-9]+) sum (?P<sum>-?[0-9]+))?)?",
+    re.ASCII,
+)
+ORDER = re.compile(r"order (?P<name>[A-Za-z_][\w-]*) (?P<total>[0-9]+)", re.ASCII)
+WORK = re.compile(r"work (?P<name>[A-Za-z_][\w-]*)", re.ASCII)
+ROWS = {
+    "table": re.compile(r"([0-9]+),(-|-?[0-9]+)", re.ASCII),
+    "order": re.compile(r"([A-Za-z_][\w-]*) ([0-9]+)", re.ASCII),
+    "work": re.compile(r"([A-Za-z_][\w-]*) ([0-9]+) ([0-9]+)", re.ASCII),
+}
+WRITTEN_BY = {"summary": "the mode summary", "order": "show order", "work": "show work"}
+FORMS = {"table": "id,value", "order": "VIEW EDGES", "work": "VIEW SEGMENT WORK"}
+
+# How a held table says that a value is none: no value of `surge` is so low.
+NONE = -(2**63)
+
+
+class BadLine(Exception):
+    """What is told in one line, and ends a tool with the status 1."""
+
+
+def opened(path):
+    """A text to be read: a file, also one that gzip made, or standard input as '-'. A byte order mark is skipped."""
+    data = sys.stdin.buffer if path == "-" else open(path, "rb")
+    if not hasattr(data, "peek"):
+        data = io.BufferedReader(data)
+    if data.peek(2)[:2] == b"\x1f\x8b":
+        data = gzip.GzipFile(fileobj=data)
+    return io.TextIOWrapper(data, encoding="utf-8-sig", newline=None)
+
+
+def named(path):
+    return "standard input" if path == "-" else path
+
+
+class Part:
+    """One of the things that `surge` prints. Its kind is one of
+    table    a view's table: collection, view, position, program, outcome; rows of (id, value), the value None for none
+    summary  a line in place of one: the same, edges, and values and sum (None where it is unsettled); no rows
+    order    what `show order` prints: name (of the collection), total; rows of (view, edges)
+    work     what `show work` prints: name (of the kept run); rows of (view, segment, work)
+    The position is the view's place in its collection, from 1. Rows come once, and before the next part is asked for.
+    """
+
+    def __init__(self, kind, place, head):
+        self.kind, self.place = kind, place
+        self.collection = self.view = self.program = self.outcome = self.position = self.name = None
+        self.edges = self.values = self.sum = self.total = None
+        for key, value in head.groupdict().items():
+            if key != "summary":
+                is_number = key in ("edges", "values", "sum", "total") and value is not None
+                setattr(self, key, int(value) if is_number else value)
+        self.rows = iter(())
+
+    @property
+    def title(self):
+        return self.name if self.collection is None else f"{self.collection}.{self.view}"
+
+
+def part_at(place, line):
+    """The part that begins with this line."""
+    head = HEAD.fullmatch(line)
+    if head:
+        return Part("summary" if head["summary"] else "table", place, head)
+    for kind, form in (("order", ORDER), ("work", WORK)):
+        head = form.fullmatch(line)
+        if head:
+            return Part(kind, place, head)
+    raise BadLine(f"{place}: {line!r} is no head of a table, as 'view C.v hops(1) settled 2'")
+
+
+def rows_of(part, lines, name):
+    """The rows of a part, up to its `end`. Those of a table stand by rising id."""
+    is_table = part.kind == "table"
+    form, last = ROWS[part.kind], -1
+    for number, line in lines:
+        line = line.rstrip("\n")
+        if line == "end":
+            return
+        row = form.fullmatch(line)
+        if row is None:
+            raise BadLine(f"{name}, line {number}: {line!r} is no row '{FORMS[part.kind]}' of the {part.kind} {part.title}")
+        if is_table:
+            node, value = row.groups()
+            node = int(node)
+            if node <= last:
+                raise BadLine(f"{name}, line {number}: the id {node} behind {last}: the rows of a table stand by rising id")
+            last = node
+            yield node, None if value == "-" else int(value)
+        else:
+            yield (row[1], *map(int, row.groups()[1:]))
+    raise BadLine(f"{name}: the text ends inside what began at {part.place.rpartition(', ')[2]}")
+
+
+def parts_of(files):
+    """All that these files hold, one part after the other, read as it is asked for."""
+    positions = {}
+    for path in files:
+        name = named(path)
+        with opened(path) as file:
+            lines = enumerate(file, 1)
+            for number, line in lines:
+                part = part_at(f"{name}, line {number}", line.rstrip("\n"))
+                if part.collection is not None:
+                    views = positions.setdefault(part.collection, {})
+                    part.position = views.setdefault(part.view, len(views) + 1)
+                if part.kind != "summary":
+                    part.rows = rows_of(part, lines, name)
+                yield part
+                for _ in part.rows:
+                    pass
+
+
+def bare(call):
+    """A call without the blanks that don't matter."""
+    return re.sub(r'("(?:[^"]|"")*")|\s+', r"\1", call)
+
+
+def is_of(call, program):
+    """Whether a call is meant by these words: by itself, as hops(1), or by its program's name alone, as hops."""
+    return bare(call) == bare(program) or re.split(r"\(", call, maxsplit=1)[0] == program.strip()
+
+
+class Choice:
+    """Which tables are wanted. It notes what is passed over, so that it can be told where none is found."""
+
+    def __init__(self, program=None, collection=None):
+        self.program, self.collection = program, collection
+        self.programs, self.collections, self.kinds = {}, {}, {}
+        self.found = 0
+
+    def takes(self, part):
+        """Whether a table or a summary is wanted."""
+        self.kinds[part.kind] = None
+        if part.collection is None:
+            return False
+        self.programs[part.program] = self.collections[part.collection] = None
+        wanted = self.program is None or is_of(part.program, self.program)
+        wanted = wanted and self.collection in (None, part.collection)
+        self.found += wanted
+        return wanted
+
+    def nothing(self):
+        """What is told where nothing is found."""
+        if not self.kinds:
+            return "there is no table in what was read: it is empty"
+        if not self.programs:
+            kinds = " and ".join(WRITTEN_BY[kind] for kind in self.kinds)
+            return f"there is no table in what was read, but what {kinds} prints"
+        if self.program is not None and not any(is_of(call, self.program) for call in self.programs):
+            return f"there is no table of the program {self.program}: there are those of {', '.join(self.programs)}"
+        if self.collection is not None and self.collection not in self.collections:
+            return f"there is no table of the collection {self.collection}: there are those of {', '.join(self.collections)}"
+        return f"there is no table of {self.program} on {self.collection}"
+
+
+class Table:
+    """A table that is held: its head, and two arrays: the ids of its nodes and their values, NONE for none."""
+
+    def __init__(self, part, ids, values):
+        self.collection, self.view, self.program, self.outcome = part.collection, part.view, part.program, part.outcome
+        self.position, self.ids, self.values = part.position, ids, values
+
+    @property
+    def name(self):
+        return f"{self.collection}.{self.view}"
+
+    @property
+    def is_unsettled(self):
+        return self.outcome == "unsettled"
+
+    @property
+    def rows(self):
+        """Pairs of an id and a value, None for none."""
+        return [(node, None if value == NONE else value) for node, value in zip(self.ids, self.values)]
+
+
+def read_tables(files, program=None, collection=None):
+    """The tables of these files that are chosen, held: 8 bytes a value, and the ids once where tables have the same."""
+    choice, found = Choice(program, collection), []
+    ids = array.array("q")
+    for part in parts_of(files):
+        if part.kind != "table" or not choice.takes(part):
+            choice.kinds[part.kind] = None
+            continue
+        own, values = array.array("q"), array.array("q")
+        for node, value in part.rows:
+            own.append(node)
+            values.append(NONE if value is None else value)
+        if own == ids:
+            own = ids
+        elif own:
+            ids = own
+        found.append(Table(part, own, values))
+    if not found:
+        raise BadLine(choice.nothing())
+    return found
+
+
+class Names:
+    """What the nodes of a nodes file are called: one of its columns."""
+
+    def __init__(self, path, label=None):
+        self.path = path
+        self.label, self.names = None, {}
+        with opened(path) as file:
+            self.read(csv.reader(file), label)
+        self.ids = None
+
+    def read(self, records, label):
+        header = next(records, None)
+        if not header or header[0] != "id":
+            raise BadLine(f"{self.path} is no nodes file: its first line does not begin with id")
+        columns = [cell.rpartition(":")[0] or cell for cell in header]
+        wanted = "name" if label is None else label
+        if wanted not in columns[1:]:
+            there = f": there are {', '.join(columns[1:])}" if columns[1:] else ": it has ids alone"
+            raise BadLine(f"{self.path} has no column {wanted!r} to name nodes by (--label){there}")
+        column = columns.index(wanted, 1)
+        self.label = wanted
+        for record in records:
+            if record:
+                try:
+                    self.names[int(record[0])] = record[column]
+                except (ValueError, IndexError):
+                    raise BadLine(f"{self.path}, line {records.line_num}: it is no node with an id and {wanted}") from None
+
+    def of(self, node):
+        """The node's name, and the empty text where it has none."""
+        return self.names.get(node, "")
+
+    def title(self, node):
+        """The node's name, and its id where it has none."""
+        return self.names.get(node) or str(node)
+
+    def id_of(self, text):
+        """The node of this name, or of this id."""
+        if self.ids is None:
+            self.ids = {}
+            for node, name in self.names.items():
+                self.ids.setdefault(name, []).append(node)
+        found = self.ids.get(text, [])
+        if len(found) > 1:
+            raise BadLine(f"{len(found)} nodes of {self.path} are called {text!r}: say one by its id, as {found[0]}")
+        if found:
+            return found[0]
+        if text.isascii() and text.isdigit() and int(text) in self.names:
+            return int(text)
+        raise BadLine(f"{self.path} has no node {text!r}{like(text, self.ids)}")
+
+
+def like(word, known):
+    """', did you mean ..', where one of the known words is near."""
+    import difflib
+
+    near = difflib.get_close_matches(word, list(known), n=1)
+    return f": did you mean {near[0]!r}?" if near else ""
+
+
+class Windows:
+    """The views of a script's collections in their order, and the windows that made them."""
+
+    def __init__(self, path):
+        self.path, self.script = path, script_of(path)
+        self.positions = {
+            name: {view: place for place, view in enumerate(views, 1)} for name, views in self.script.collections.items()
+        }
+
+    def collection_of(self, kept):
+        """The collection that a kept run goes over."""
+        return self.script.kept.get(kept)
+
+    def views(self, collection):
+        """The names of a collection's views, in their order."""
+        return list(self.script.collections.get(collection, ()))
+
+    def position(self, collection, view):
+        """The place of a view in its collection, from 1."""
+        try:
+            return self.positions[collection][view]
+        except KeyError:
+            raise BadLine(f"the script {self.path} has no view {collection}.{view}: is it another script's output?") from None
+
+    def window(self, collection, view):
+        """The Window (property, first, last, label) of a view, and None where it is a predicate."""
+        self.position(collection, view)
+        return self.script.collections[collection][view]
+
+    def label(self, collection, view):
+        """How an axis calls a view: 2018-2019 in place of y-1, and a predicate's view by its name."""
+        window = self.window(collection, view)
+        return view if window is None else window.label
+
+
+def told(tool, work):
+    """Does a tool's work. What goes wrong is told in one line, with the status 1."""
+    # (a reader that stops, as head does, ends this too)
+    if hasattr(signal, "SIGPIPE"):
+        signal.signal(signal.SIGPIPE, signal.SIG_DFL)
+    try:
+        work()
+        sys.stdout.flush()
+    except BadLine as fault:
+        sys.exit(f"{tool}: {fault}")
+    except UnicodeDecodeError:
+        sys.exit(f"{tool}: the text is not UTF-8")
+    except (EOFError, gzip.BadGzipFile):
+        sys.exit(f"{tool}: what gzip made is cut short or damaged")
+    except OSError as fault:
+        # (what is left in standard output is not tried again at the end)
+        os.dup2(os.open(os.devnull, os.O_WRONLY), 1)
+        where = "standard output" if fault.filename is None else fault.filename
+        sys.exit(f"{tool}: {where}: {fault.strerror}")
