@@ -8,6 +8,7 @@ import os
 import re
 import signal
 import sys
+import zlib
 
 from gvdl import script_of
 
@@ -27,6 +28,9 @@ ROWS = {
 }
 WRITTEN_BY = {"summary": "the mode summary", "order": "show order", "work": "show work"}
 FORMS = {"table": "id,value", "order": "VIEW EDGES", "work": "VIEW SEGMENT WORK"}
+
+# A field may be as long as a file that surge reads.
+csv.field_size_limit(2**28)
 
 # How a held table says that a value is none: no value of `surge` is so low.
 NONE = -(2**63)
@@ -48,6 +52,16 @@ def opened(path):
 
 def named(path):
     return "standard input" if path == "-" else path
+
+
+def lines_of(file, name):
+    """The lines of a text with their numbers."""
+    try:
+        yield from enumerate(file, 1)
+    except UnicodeDecodeError:
+        raise BadLine(f"{name}: the text is not UTF-8") from None
+    except (EOFError, gzip.BadGzipFile, zlib.error):
+        raise BadLine(f"{name}: what gzip made is cut short or damaged") from None
 
 
 class Part:
@@ -115,7 +129,7 @@ def parts_of(files):
     for path in files:
         name = named(path)
         with opened(path) as file:
-            lines = enumerate(file, 1)
+            lines = lines_of(file, name)
             for number, line in lines:
                 part = part_at(f"{name}, line {number}", line.rstrip("\n"))
                 if part.collection is not None:
@@ -221,7 +235,7 @@ class Names:
         self.path = path
         self.label, self.names = None, {}
         with opened(path) as file:
-            self.read(csv.reader(file), label)
+            self.read(csv.reader(line for _, line in lines_of(file, path)), label)
         self.ids = None
 
     def read(self, records, label):
@@ -314,15 +328,12 @@ def told(tool, work):
     # (a reader that stops, as head does, ends this too)
     if hasattr(signal, "SIGPIPE"):
         signal.signal(signal.SIGPIPE, signal.SIG_DFL)
+    sys.stdout.reconfigure(encoding="utf-8", newline="\n")
     try:
         work()
         sys.stdout.flush()
-    except BadLine as fault:
+    except (BadLine, csv.Error) as fault:
         sys.exit(f"{tool}: {fault}")
-    except UnicodeDecodeError:
-        sys.exit(f"{tool}: the text is not UTF-8")
-    except (EOFError, gzip.BadGzipFile):
-        sys.exit(f"{tool}: what gzip made is cut short or damaged")
     except OSError as fault:
         # (what is left in standard output is not tried again at the end)
         os.dup2(os.open(os.devnull, os.O_WRONLY), 1)
