@@ -1,4 +1,5 @@
-"""Runs tools/explain.py on each row of tests/tools/mistakes.rows, and compares what it tells.
+"""Runs tools/explain.py on each row of tests/tools/mistakes.rows, and compares what it tells. Also: the grammar that it goes by is
+that of docs/LANGUAGE.md.
 
   tests/mistakes.py PROGRAM ROWS     writes the rows that differ, and at last 'PASSED FAILED'
 """
@@ -6,12 +7,15 @@
 import contextlib
 import io
 import os
+import re
 import sys
 import tempfile
 
-sys.path.insert(0, os.path.join(os.path.dirname(os.path.dirname(os.path.abspath(__file__))), "tools"))
+TOP = os.path.dirname(os.path.dirname(os.path.abspath(__file__)))
+sys.path.insert(0, os.path.join(TOP, "tools"))
 
 import explain
+import grammar
 
 LOAD = "load graph G nodes 'n.csv' edges 'e.csv';\n"
 NODES = "id,name:str,age:int\\n1,Ada,36\\n2,Ben,\\n3,Cem,7\\n"
@@ -76,9 +80,31 @@ def run(program, row):
     return out.getvalue().splitlines()
 
 
+def differing_rules():
+    """The rules of docs/LANGUAGE.md that tools/grammar.py has in another form."""
+    with open(os.path.join(TOP, "docs", "LANGUAGE.md"), encoding="utf-8") as file:
+        blocks = re.findall(r"^```ebnf\n(.*?)^```", file.read(), re.MULTILINE | re.DOTALL)
+    page = grammar.rules_of("\n".join(blocks).replace("quoted name", "quoted"))
+    # (a tool reads one statement at a time)
+    wanted, found = ({name: them for name, them in rules.items() if "." not in name} for rules in (page, grammar.RULES))
+    wanted.pop("script")
+    return [name for name in {**wanted, **found} if shape(page, name) != shape(grammar.RULES, name)] if wanted.keys() == found.keys() else ["their names"]
+
+
+def shape(rules, name):
+    """A rule with what its brackets hold in their place."""
+    return [[shape(rules, part) if "." in part and part in rules else part for part in one if part != name] for one in rules[name]]
+
+
 def main():
     program, path = sys.argv[1:]
     passed = failed = 0
+    differing = differing_rules()
+    if differing:
+        failed += 1
+        print(f"FAILED mistakes, the grammar: docs/LANGUAGE.md and tools/grammar.py differ in {', '.join(differing)}")
+    else:
+        passed += 1
     for row in rows_of(path):
         lines = run(program, row)
         wanted = [line for line in [row.answer, row.place, *row.told] if line is not None]

@@ -180,7 +180,8 @@ def of_header(record, column, which, path, header, nodes):
     if record.fields[0].startswith("\xff\xfe") or record.fields[0].startswith("\xfe\xff"):
         return ["The file is UTF-16: it has to be UTF-8 (iconv -f UTF-16 -t UTF-8)."]
     if column <= len(wanted):
-        told = [f"The header of the {which} file begins with {whole}: `{wanted[column - 1]}` is wanted here, and not `{cell}`."]
+        stands = f"and not `{cell}`" if cell else "and there is nothing"
+        told = [f"The header of the {which} file begins with {whole}: `{wanted[column - 1]}` is wanted here, {stands}."]
         other = next((sign for sign in ";\t|" if sign in utf8(record.fields[0])), None)
         if other:
             told.append(f"Its fields are parted by {other!r}: data files have commas. `tools/edges.py --separator` reads other lists.")
@@ -367,5 +368,5 @@ def beside(path):
         there = sorted(os.listdir(folder or "."))
     except OSError:
         return f"There is no folder {folder}." if folder and not os.path.isdir(folder) else ""
-    same = [one for one in there if one.lower() == name.lower()] or difflib.get_close_matches(name, there, n=1)
+    same = [one for one in there if one.lower() == name.lower()] or difflib.get_close_matches(name, there, n=1, cutoff=0.75)
     return f"Did you mean {os.path.join(folder, same[0])}?" if same else ""

@@ -119,6 +119,8 @@ def of_signs(token, last, behind, touches, before, wanted):
         return ["`=<` is no sign here: it is `<=`."]
     if text == ">" and last is not None and last.text == "=":
         return ["`=>` is no sign here: it is `>=`."]
+    if text == "\ufeff":
+        return ["A byte order mark stands here, which is not seen: it may stand once, at the start of a file. (Was another file put in front?)"]
     if text == "!":
         return ["`!` is no sign here: it is the word `not`, and `!=` for what is not equal."]
     if text in "&|":
@@ -739,7 +741,7 @@ def of_arguments(program, arguments, fault, known, nodes, edges):
         form = f"it is called as {call}" if program.text in CALLS else f"it has {wanted} parameters"
         usual = {"hops": "as hops(1), from the node with the id 1", "dist": "as dist(1, w)", "pagerank": "for as many rounds as its run says"}
         more = f" ({usual[program.text]})" if program.text in usual else ""
-        return at(program, f"`{program.text}` is called with {len(arguments)} arguments, and takes {wanted}: {form}{more}.")
+        return at(program, f"`{program.text}` is called with {len(arguments)} argument{'s' if len(arguments) != 1 else ''}, and takes {wanted}: {form}{more}.")
     for place, argument in enumerate(arguments):
         last = argument[-1]
         is_property = program.text == "dist" and place == 1
