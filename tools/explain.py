@@ -145,6 +145,8 @@ def hardly_meant(path, text, script):
             elif last + width <= ends[0] or first > ends[1]:
                 lie = f"The values of `{name}` lie from {ends[0]} to {ends[1]}"
                 found.append((token, f"{lie}, so no view of this window has an edge. (This is no fault.)"))
+    for token in script_faults.nones_of(text):
+        found.append((token, "A comparison with `none` holds nowhere: it is `is none`. (This is no fault.)"))
     for token, sentence in found:
         tell_script(path, text, script_faults.at(token, sentence))
     return found

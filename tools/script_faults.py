@@ -5,6 +5,14 @@ import difflib
 import grammar
 from gvdl import BUILT_IN, MOST_VIEWS, RESERVED, statements_of, tokens_of, views_of
 
+# What others call the programs that are built in, and what else is there under another name.
+OTHER_PROGRAMS = {
+    "bfs": "hops", "distance": "hops", "hop_count": "hops",
+    "sssp": "dist", "dijkstra": "dist", "shortest_path": "dist", "shortest_paths": "dist", "bellman_ford": "dist",
+    "cc": "wcc", "components": "wcc", "connected_components": "wcc",
+    "page_rank": "pagerank", "pr": "pagerank",
+}  # fmt: skip
+NONES = ("infinity", "inf", "null", "nil", "nan", "absent", "undefined", "missing")
 CALLS = {"hops": "hops(SOURCE)", "dist": "dist(SOURCE, PROPERTY)", "wcc": "wcc", "pagerank": "pagerank"}
 # What each part of a program may name, beside numbers, none and the parameters.
 MAY_NAME = {
@@ -121,6 +129,10 @@ def of_signs(token, last, behind, touches, before, wanted):
         return ["`=>` is no sign here: it is `>=`."]
     if text == "\ufeff":
         return ["A byte order mark stands here, which is not seen: it may stand once, at the start of a file. (Was another file put in front?)"]
+    if text in COMPARISONS and last is not None and has_predicate(before) and '"and"' in wanted:
+        return ["A comparison has two sides: `2018 <= year and year <= 2019` are two of them."]
+    if text == "?":
+        return ["There is no `?`: an expression has `if .. then .. else ..`."]
     if text == "!":
         return ["`!` is no sign here: it is the word `not`, and `!=` for what is not equal."]
     if text in "&|":
@@ -129,13 +141,37 @@ def of_signs(token, last, behind, touches, before, wanted):
         return ["There is no remainder: an expression has `+` `-` `*` `/`, where `a - a / b * b` is the remainder of a by b."]
     if text == "/" and behind is not None and behind.text in "/*" or text == "-" and behind is not None and behind.text == "-":
         return ["A comment begins with `#`."]
+    if text == "-" and last is not None and last.kind == "number" and touches and behind is not None and behind.kind == "number":
+        return ["There are no dates: `tools/edges.py --date` makes whole numbers of them, as years or days, and scripts have these numbers."]
+    if text == "(" and last is not None and last.is_name and before and before[0].text == "program":
+        return [f"There is no function `{last.text}`: `min` and `max` of two values are the only ones."]
+    if text == "," and before and before[0].text == "program" and '")"' in wanted:
+        return ["`min` and `max` take two values: of three it is max(a, max(b, c))."]
+    if text == "," and before and before[0].text == "run" and '"within"' in wanted:
+        return ["A run goes over one collection: over another goes a run of its own."]
+    if text == "=" and before and before[0].text == "run" and '")"' in wanted:
+        return ["An argument stands by itself: hops(1)."]
+    if text == "}" and '";"' in wanted:
+        return ["Each part of a program ends with `;`, the last one too."]
+    if text in (";", ")") and '"else"' in wanted and lacks_else(before):
+        return ["An `if` has an `else`: `if .. then .. else none`, say."]
     if has_predicate(before) and text in ("+", "-", "*", "/") and is_operand_end(last):
         return ["A predicate has no arithmetic: it compares properties, numbers and texts. What is worked out has to be a column of the file."]
-    if text in ("]", ";", ")", ",") and is_operand_end(last) and last.kind != "number" and COMPARED <= wanted:
+    is_joined = len(before) > 1 and before[-2].text in ("and", "or")
+    if text in ("]", ";", ")") and last is not None and last.kind in ("number", "string") and COMPARED <= wanted and is_joined:
+        return [f"On each side of `{before[-2].text}` stands a whole comparison: `year = 2018 or year = 2019`."]
+    if text in ("]", ";", ")", ",") and is_operand_end(last) and last.kind not in ("number", "string") and COMPARED <= wanted:
         return [f"A property alone is no predicate: `{last.text} = true` is one, where it is a truth value."]
     if text == "," and '"]"' in wanted:
         return ["A view has one predicate: two of them are joined by `and` or `or`. Items stand in brackets of their own: `[a: ..], [b: ..]`."]
     return []
+
+
+def lacks_else(before):
+    """Whether the part of a program that is read has an `if` that still wants its `else`."""
+    words = [token.text for token in before]
+    part = words[len(words) - words[::-1].index(";") :] if ";" in words else words
+    return part.count("if") > part.count("else")
 
 
 def is_operand_end(token):
@@ -154,6 +190,10 @@ def of_quotes(token, last, behind, touches, before, wanted):
         return ["The name that begins here is not closed, or is empty. Texts stand in single quotes, as 'Ada'."]
     if last is not None and last.kind == "string" and touches and token.kind in ("word", "number"):
         return ["A quote within a text is written twice: 'O''Brien'."]
+    if token.kind == "word" and wanted == {"string"}:
+        return ["File names stand in single quotes: 'nodes.csv'."]
+    if token.kind == "string" and "number" in wanted and "window" in [one.text for one in before]:
+        return ["A window goes over whole numbers. Dates become such by `tools/edges.py --date`, as years or days."]
     if token.kind == "quoted" and "string" in wanted and "quoted" not in wanted:
         return [f"File names stand in single quotes: '{token.value}'."]
     if token.kind == "string" and before and before[0].text == "run":
@@ -202,7 +242,15 @@ def of_words(token, last, behind, touches, before, wanted):
         return ["In a predicate a property of the edge stands alone, as `year`, and those of its ends behind `src.` and `dst.`."]
     if text == "id" and in_predicate:
         return ["An edge has no id: its ends have, as `src.id` and `dst.id`."]
+    if text == "nodes" and "edges" in words and before[0].text == "create":
+        return ["A view has all nodes and chooses edges: `edges where src.PROPERTY = ..` goes by what their ends are."]
+    if small in ("avg", "mean", "average") and "sum" in words:
+        return ["There is no average: `gather sum`, and in `update` it is `gathered / count`."]
+    if small in ("undirected", "any", "all", "either") and "both" in words:
+        return ["Both ways along each edge is `both`."]
     if text in RESERVED and ("quoted" in wanted or "name" in wanted) and text not in words:
+        if "quoted" in wanted and text in ("where", "create", "run", "window"):
+            return []
         if "quoted" in wanted:
             return [f'`{text}` is a word of the language: a property of this name stands in double quotes, "{text}".']
         return [f"`{text}` is a word of the language: it can't be a name."]
@@ -218,8 +266,8 @@ def of_numbers(token, last, behind, touches, before, wanted):
         return ["Numbers are whole ones, without a point: decimals become whole numbers by `tools/edges.py --scale w=100`."]
     if token.kind == "word" and last is not None and last.kind == "number" and touches and token.text[0] in "eE" and token.text[1:].isdigit():
         return ["Numbers are written out: 1000 in place of 1e3."]
-    if token.text == "," and last is not None and last.kind == "number" and behind is not None and behind.kind == "number":
-        if "number" not in wanted and '","' not in wanted:
+    if token.text == "," and last is not None and last.kind == "number" and touches and behind is not None and behind.kind == "number":
+        if len(behind.text) == 3 and behind.begin == token.end and '","' not in wanted:
             return ["A number has no commas: 1000 in place of 1,000."]
     if token.kind == "number" and "name" in wanted and "number" not in wanted:
         return ["A name begins with a letter or `_`."]
@@ -245,7 +293,9 @@ def of_statements(token, last, behind, touches, before, wanted):
         found.append(f"A collection has items in brackets: {FORMS['collection']}")
     if token.text == "[" and '"edges"' in wanted:
         found.append(f"Items in brackets belong to a collection: {FORMS['collection']}")
-    if words[:1] == ["run"] and '"within"' in wanted:
+    if words[:1] == ["run"] and token.kind == "number" and '"("' in wanted:
+        found.append(f"Arguments stand in brackets: {last.text}({token.text}).")
+    if words[:1] == ["run"] and '"within"' in wanted and token.text != ",":
         found.append(f"A run says for how many rounds it may go on: {FORMS['run']}")
     if words[:1] == ["run"] and token.kind == "number" and '"every"' in wanted:
         found.append("A split into segments of N views is `split every N`.")
@@ -267,6 +317,14 @@ class Known:
         self.kinds, self.lines = {name: "a program that is built in" for name in BUILT_IN}, {}
         self.programs = {"hops": 1, "dist": 2, "wcc": 0, "pagerank": 0}
         self.views, self.collections, self.kept = [], {}, []
+        # What is named further down.
+        self.later = {}
+
+    def below(self, word, text):
+        """What is told of a name that stands further down."""
+        token = self.later.get(word)
+        line = text.place(token.begin)[0] if token is not None else 0
+        return f"It is named in line {line}, which is further down: a name is known behind its statement." if token is not None else ""
 
     def add(self, token, kind):
         self.kinds.setdefault(token.text, kind)
@@ -307,6 +365,10 @@ def of_statement(text, fault, number, nodes, edges):
     known = Known()
     for statement in statements[: number - 1]:
         known.take(statement)
+    below = Known()
+    for statement in statements[number:]:
+        below.take(statement)
+    known.later = below.lines
     statement = statements[number - 1]
     words = [token.text for token in statement]
     judge = {"load": of_load, "create": of_create, "program": of_program, "append": of_append, "run": of_run, "show": of_show}[words[0]]
@@ -326,14 +388,14 @@ def of_load(statement, fault, known, nodes, edges, text):
     return repeated(statement[2], known, text)
 
 
-def of_base(token, known):
+def of_base(token, known, text):
     """A base that is neither the graph nor a single view."""
     if token.text == known.graph or token.text in known.views:
         return None
     bases = [known.graph, *known.views]
     kind = known.kinds.get(token.text)
     is_what = f"`{token.text}` is {kind}" if kind else f"There is nothing called `{token.text}` above this statement"
-    return at(token, f"{is_what}: views stand on the graph or on a single view, which are {listed(bases)}.", meant(token.text, bases))
+    return at(token, f"{is_what}: views stand on the graph or on a single view, which are {listed(bases)}.", known.below(token.text, text) or meant(token.text, bases))
 
 
 def of_create(statement, fault, known, nodes, edges, text):
@@ -342,7 +404,7 @@ def of_create(statement, fault, known, nodes, edges, text):
     if fault == "RepeatedName" and name.text in known.kinds:
         return repeated(name, known, text)
     if fault == "UnknownName":
-        return of_base(base, known)
+        return of_base(base, known, text)
     if is_collection:
         return of_items(statement[6:], fault, {}, nodes, edges, text)
     return of_predicate(statement[7:-1], fault, nodes, edges)
@@ -351,11 +413,11 @@ def of_create(statement, fault, known, nodes, edges, text):
 def of_append(statement, fault, known, nodes, edges, text):
     name = statement[2]
     if fault == "UnknownName":
-        return no_collection(name, known, "Views are appended to a collection")
+        return no_collection(name, known, "Views are appended to a collection", text)
     return of_items(statement[3:], fault, dict(known.collections.get(name.text, {})), nodes, edges, text)
 
 
-def no_collection(token, known, rule):
+def no_collection(token, known, rule, text):
     """A name that is no collection."""
     kind = known.kinds.get(token.text)
     there = f"{rule}. Collections are {listed(known.collections)}." if known.collections else f"{rule}, and there is none above this statement."
@@ -364,7 +426,8 @@ def no_collection(token, known, rule):
         return at(token, f"`{token.text}` is {kind}. {there}", f"A collection with this one view: {cure}")
     if kind:
         return at(token, f"`{token.text}` is {kind}. {there}")
-    return at(token, f"There is nothing called `{token.text}` above this statement. {there}", meant(token.text, known.collections))
+    more = known.below(token.text, text) or meant(token.text, known.collections)
+    return at(token, f"There is nothing called `{token.text}` above this statement. {there}", more)
 
 
 def fresh(known):
@@ -685,6 +748,8 @@ def unknown_word(word, part, parameters, nodes, edges):
     columns = {"node": nodes, "edge": edges}.get(owner, {})
     if hyphen:
         told.append(f"A `-` within a name belongs to it: a subtraction wants a blank, as in `{head} - {tail}`.")
+    elif word.lower() in NONES:
+        told.append("What has no value is `none`: `min` and `max` pass it over, and it is not sent.")
     elif word in columns:
         told.append(f"A property stands behind its owner: `{owner}.{word}`.")
     elif word in nodes or word in edges:
@@ -703,8 +768,10 @@ def of_run(statement, fault, known, nodes, edges, text):
             kind = known.kinds.get(program.text)
             is_what = f"`{program.text}` is {kind}." if kind else f"There is no program `{program.text}` above this statement."
             there = ", ".join(CALLS.get(name, name + ("(..)" if count else "")) for name, count in known.programs.items())
-            return at(program, is_what, meant(program.text, known.programs), f"Programs are {there}.")
-        return no_collection(collection, known, "A run goes over a collection")
+            other = OTHER_PROGRAMS.get(program.text.lower())
+            near = f"What is often called so is `{other}` here." if other else meant(program.text, known.programs)
+            return at(program, is_what, known.below(program.text, text) or near, f"Programs are {there}.")
+        return no_collection(collection, known, "A run goes over a collection", text)
     arguments = split_arguments(statement[2:on])
     if fault in ("WrongArguments", "UnknownProperty", "WrongType"):
         return of_arguments(program, arguments, fault, known, nodes, edges)
@@ -759,7 +826,7 @@ def of_arguments(program, arguments, fault, known, nodes, edges):
 def of_show(statement, fault, known, nodes, edges, text):
     what, name = statement[1].text, statement[2]
     if what == "order":
-        return no_collection(name, known, "`show order` names a collection")
+        return no_collection(name, known, "`show order` names a collection", text)
     kind = known.kinds.get(name.text)
     is_what = f"`{name.text}` is {kind}." if kind else f"There is nothing called `{name.text}` above this statement."
     if known.kept:
@@ -778,6 +845,16 @@ def sources_of(text):
             token = next((token for token in statement[2:] if token.kind == "number"), None)
             if token is not None and statement[2].text == "(":
                 yield (-token.value if statement[3].text == "-" else token.value), token, statement[1].text
+
+
+def nones_of(text):
+    """The comparisons with `none` in a script's programs, which hold nowhere: the tokens of their signs."""
+    for statement in statements_of(tokens_of(text.text)):
+        if statement[0].text != "program":
+            continue
+        for before, token, behind in zip(statement, statement[1:], statement[2:]):
+            if token.text in COMPARISONS and token.kind == "sign" and "none" in (before.text, behind.text):
+                yield token
 
 
 def windows_of_script(text):
