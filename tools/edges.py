@@ -14,6 +14,7 @@ Further fields become properties of the edge:
   --date when                  makes whole numbers of dates and times: seconds since 1970-01-01, in UTC; with
                                --date when=days (hours, days, weeks from Monday on, months) those, and with =years years
   --scale w=100                makes whole numbers of decimals: 100 times as much, rounded where that is none
+  --absent NA                  takes this text as no value
 An empty field stays empty: it is absent.
 
 --nodes-from people.csv reads further properties of nodes: a comma file with a header, one line a node, whose column 'id'
@@ -43,6 +44,8 @@ MOST_ID = 2**63 - 1
 MOST_NODES, MOST_EDGES, MOST_COLUMNS = 1_000_000, 4_000_000, 16
 TRUTHS = ("true", "True", "TRUE", "false", "False", "FALSE")
 KINDS = ("int", "str", "bool")
+# What often stands where there is no value.
+USUAL_ABSENT = ("NA", "N/A", "NaN", "nan", "NULL", "null", "None", "none", "?", "-", "\\N")
 # What a header often calls the ends of an edge.
 USUAL_ENDS = (
     {"src", "dst"}, {"source", "target"}, {"source", "dest"}, {"source", "destination"}, {"from", "to"}, {"caller", "callee"},
@@ -71,14 +74,17 @@ def is_whole(text, may_be_negative):
 @functools.lru_cache(maxsize=65536)
 def seconds_of(cell):
     """A date, or a date and a time, as seconds since 1970-01-01 in UTC; None where it is none."""
-    found = DATE.fullmatch(cell.strip())
+    bare = cell.strip()
+    if len(bare) == 8 and bare.isascii() and bare.isdigit():
+        bare = f"{bare[:4]}-{bare[4:6]}-{bare[6:]}"
+    found = DATE.fullmatch(bare)
     if found is None:
         return None
     year, month, day, hour, minute, second = (
         int(found[part] or least)
         for part, least in (("year", 1), ("month", 1), ("day", 1), ("hour", 0), ("minute", 0), ("second", 0))
     )
-    if hour > 24 or minute > 59 or second > 60:
+    if hour > 23 or minute > 59 or second > 60:
         return None
     try:
         days = datetime.date(year, month, day).toordinal() - EPOCH
@@ -89,7 +95,8 @@ def seconds_of(cell):
     if zone[:1] in ("+", "-") and zone:
         ahead = int(zone[1:3]) * 3600 + int(zone[3:]) * 60
         seconds += ahead if zone[0] == "-" else -ahead
-    return seconds
+    # (in UTC it may lie outside of all years)
+    return seconds if 0 < seconds // 86400 + EPOCH <= datetime.date.max.toordinal() else None
 
 
 def counted(seconds, unit):
@@ -106,18 +113,23 @@ def counted(seconds, unit):
 class Column:
     """A property: its name, its kind, how its cells become whole numbers, and what was seen of them."""
 
-    def __init__(self, name, kind, unit=None, factor=None):
-        self.name, self.kind, self.unit, self.factor = name, kind, unit, factor
+    def __init__(self, name, kind, unit=None, factor=None, absent=()):
+        self.name, self.kind, self.unit, self.factor, self.absent = name, kind, unit, factor, absent
         self.is_inferred = kind is None
         self.may_be = {"int", "bool", "decimal", "date"} if kind is None else set()
         self.least = self.most = None
         self.first_date = self.last_date = None
         self.rounded, self.was_seen = 0, False
+        # What is usually no value, and yet stood in a cell.
+        self.usual = {}
 
     def see(self, cell):
         """Notes which kinds a cell has, where the kind isn't told."""
         bare = cell.strip()
-        if bare == "":
+        if bare == "" or bare in self.absent:
+            return
+        if bare in USUAL_ABSENT:
+            self.usual[bare] = None
             return
         self.was_seen = True
         if "int" in self.may_be and is_whole(bare, True):
@@ -133,15 +145,16 @@ class Column:
     def settle(self):
         """Takes the kind that all cells have."""
         if self.is_inferred:
-            self.kind = next((kind for kind in ("int", "bool") if self.was_seen and kind in self.may_be), "str")
+            is_known = self.was_seen and not self.usual
+            self.kind = next((kind for kind in ("int", "bool") if is_known and kind in self.may_be), "str")
 
     def taken(self, place, cell):
         """The cell as it is written."""
         bare = cell.strip()
+        if bare == "" and self.kind != "str" or bare in self.absent:
+            return ""
         if self.kind == "str":
             return cell
-        if bare == "":
-            return ""
         if self.unit is not None:
             return self.of_date(place, bare)
         if self.factor is not None:
@@ -158,7 +171,8 @@ class Column:
     def of_date(self, place, bare):
         seconds = seconds_of(bare)
         if seconds is None:
-            raise BadLine(f"{place}: {bare!r} is no date for {self.name}: it wants {DATE_FORMS}")
+            number = " (whole numbers stand without --date)" if is_whole(bare, True) else ""
+            raise BadLine(f"{place}: {bare!r} is no date for {self.name}: it wants {DATE_FORMS}{number}")
         if self.first_date is None or seconds < self.first_date:
             self.first_date = seconds
         if self.last_date is None or seconds > self.last_date:
@@ -186,6 +200,8 @@ class Column:
 
     @staticmethod
     def hint(bare):
+        if bare in USUAL_ABSENT:
+            return f": --absent {bare} takes it as no value"
         if DECIMAL.fullmatch(bare):
             return ": --scale makes whole numbers of decimals"
         return ": --date makes whole numbers of dates" if seconds_of(bare) is not None else ""
@@ -199,6 +215,9 @@ class Column:
         if self.factor is not None:
             rounded = f", {self.rounded} rounded" if self.rounded else ""
             return f"{self.name}: int{ends}, {self.factor} times what stood there{rounded}"
+        if self.kind == "str" and self.was_seen and self.usual and self.may_be:
+            options = " ".join(f"--absent {text}" for text in self.usual)
+            return f"{self.name}: str, since {' and '.join(self.usual)} stands in it: {options} takes that as no value"
         if self.kind == "str" and self.was_seen and "decimal" in self.may_be:
             return f"{self.name}: str, though all are decimals: --scale {self.name}=100 makes whole numbers of them"
         if self.kind == "str" and self.was_seen and "date" in self.may_be:
@@ -235,7 +254,7 @@ class Rules:
             if not equals or not name or not is_whole(factor, False) or int(factor) < 1:
                 raise BadLine(f"--scale wants COLUMN=N with a whole number from 1 on, not {part!r}")
             self.factors[name] = int(factor)
-        self.known = set()
+        self.known, self.absent = set(), frozenset(asked.absent)
 
     def column(self, name, kind):
         """The column of this name, which has one of these kinds or, with None, one that is still to be found out."""
@@ -245,7 +264,7 @@ class Rules:
             raise BadLine(f"{name} is named by --date and by --scale")
         if (unit or factor) and kind not in (None, "int"):
             raise BadLine(f"{name} is named by --{'date' if unit else 'scale'}, so it is of kind int and not {kind}")
-        return Column(name, "int" if unit or factor else kind, unit, factor)
+        return Column(name, "int" if unit or factor else kind, unit, factor, self.absent)
 
     def all_known(self):
         for option, rules in (("--date", self.units), ("--scale", self.factors)):
@@ -609,6 +628,7 @@ def words():
     parser.add_argument("--names", action="store_true", help="ids are any texts: number the nodes from 1")
     parser.add_argument("--date", action="append", default=[], metavar="COLUMN[=UNIT]", help="dates become whole numbers")
     parser.add_argument("--scale", action="append", default=[], metavar="COLUMN=N", help="decimals become whole numbers")
+    parser.add_argument("--absent", action="append", default=[], metavar="TEXT", help="this text is no value")
     parser.add_argument("--nodes-from", metavar="FILE", help="a comma file with properties of the nodes")
     parser.add_argument("--key", metavar="COLUMN", help="the column of --nodes-from that says which node it is")
     asked = parser.parse_args()
