@@ -34,7 +34,7 @@ sys.path.insert(0, os.path.dirname(os.path.abspath(__file__)))
 from reading import NONE, WRITTEN_BY, BadLine, Choice, Names, Windows, parts_of, read_tables, told  # noqa: F401
 
 # How many cells of a wide table are held at a time.
-CELLS = 200_000
+CELLS = 50_000
 
 
 def quoted(cell):
