@@ -39,12 +39,12 @@ def drawing():
     return pyplot
 
 
-def chosen(tables, program):
+def chosen(tables):
     """The tables of one run of one collection, in the order of its views."""
-    names = list(dict.fromkeys(table.collection for table in tables))
+    names = sorted({table.collection for table in tables})
     if len(names) > 1:
         raise reading.BadLine(f"there are tables of several collections ({', '.join(names)}): choose one by --collection")
-    programs = list(dict.fromkeys(table.program for table in tables))
+    programs = sorted({table.program for table in tables})
     if len(programs) > 1:
         raise reading.BadLine(f"several programs were run ({', '.join(programs)}): choose one by --program")
     views = [table.view for table in tables]
@@ -198,11 +198,12 @@ def draw_band(axes, axis, values):
     line(axes, axis, middle, color=BLUE, linewidth=2)
 
 
-def draw(tables, asked, pyplot):
+def draw(tables, asked):
     windows = reading.Windows(asked.script) if asked.script else None
     names = reading.Names(asked.names, asked.label) if asked.names else None
     nodes = nodes_of(asked.ids, tables, names) if asked.ids else []
     axis = Axis(tables, windows)
+    pyplot = drawing()
     figure, axes = pyplot.subplots(figsize=(min(14, max(5.5, 0.55 * len(tables) + 2.5)), 3.6))
     is_components = tables[0].program == "wcc" and not nodes
     if nodes:
@@ -256,8 +257,8 @@ def main():
         kind = os.path.splitext(asked.out)[1][1:].lower()
         if kind not in KINDS:
             raise reading.BadLine(f"--out wants a file that ends in one of {', '.join('.' + it for it in KINDS)}, not {asked.out!r}")
-        tables = chosen(reading.read_tables(asked.files, asked.program, asked.collection), asked.program)
-        draw(tables, asked, drawing())
+        tables = chosen(reading.read_tables(asked.files, asked.program, asked.collection))
+        draw(tables, asked)
 
     reading.told("plot.py", work)
 
