@@ -4,3 +4,5 @@ pub mod Nearest
 pub mod Below
 pub mod Around
 pub mod Walks
+pub mod Links
+pub mod Results

@@ -2,6 +2,7 @@
 use Rattle.std.proofs.Common.{◌≡◌, ◌≢◌, ◌∙◌, ℕ, zero, suc, ◌+◌, ◌<◌, ◌≤◌, ◌==◌, ◌⊎◌, inl, inr, Bool, true, false, if◌then◌else◌, List, [], ◌∷◌, ◌++◌, length, map, Option, Some, None, refl, sym, ap, subst, arith, append_assoc}
 use Rattle.std.specs.Prelude.{IsPermutation}
 use Rattle.std.proofs.lemmas.Bool.Decides.{eqb_tells}
+use Rattle.std.proofs.lemmas.List.{append-nil}
 use Rattle.std.proofs.lemmas.List.Sorted.{IsPermutation-refl, IsPermutation-cons, IsPermutation-trans, IsPermutation-sym, IsPermutation-append_comm, IsPermutation-append_left, IsPermutation-append_right}
 use Rattle.view_order.specs.Greedy.{nearest, without}
 use Rattle.tree_order.specs.Trees.{Branch, branch, closest, is_same, joins, reach, tree, tree_walk, views_of, walk}
@@ -69,10 +70,6 @@ all_below ps (b ∷ bs) grows =
     (IsPermutation-cons b bs (below (Some b.view ∷ ps) bs) (all_below (Some b.view ∷ ps) bs grows.1))
     (hung b ps bs grows.0)
 
-nothing_behind : (xs : List Branch) → xs ++ [] ≡ xs
-nothing_behind [] = refl
-nothing_behind (x ∷ xs) = ap (λ (ys : List Branch). x ∷ ys) (nothing_behind xs)
-
 -- ---- the tree
 
 module _ (distance : Option ℕ → ℕ → ℕ) where
@@ -119,12 +116,12 @@ module _ (distance : Option ℕ → ℕ → ℕ) where
   pub walk_all : (views : List ℕ) → AreOnce views → IsPermutation (tree distance views) (tree_walk distance views)
   walk_all views once =
       let start : ArePoints (None ∷ []) [] = record { start = refl; each = λ x. refl } in
-      subst (λ (xs : List Branch). IsPermutation (tree distance views) xs) (nothing_behind (tree_walk distance views))
+      subst (λ (xs : List Branch). IsPermutation (tree distance views) xs) (append-nil (tree_walk distance views))
       (all_below (None ∷ []) (tree distance views) (joins_grow (length views) (None ∷ []) [] views start (λ x. omega (arith, once x))))
 
   -- ---- each view joins
 
-  joins_all : (n : ℕ) (joined outside : List ℕ) → length outside ≤ n → AreOnce outside → IsPermutation outside (views_of (joins distance n joined outside))
+  pub joins_all : (n : ℕ) (joined outside : List ℕ) → length outside ≤ n → AreOnce outside → IsPermutation outside (views_of (joins distance n joined outside))
   joins_all zero joined [] few once = IsPermutation-refl []
   joins_all zero joined (v ∷ vs) few once = absurd (omega arith)
   joins_all (suc n) joined [] few once = IsPermutation-refl []
