@@ -6,3 +6,4 @@ pub mod Around
 pub mod Walks
 pub mod Links
 pub mod Results
+pub mod Orders

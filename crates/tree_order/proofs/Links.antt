@@ -27,6 +27,9 @@ nearest_more links p best other d from lt is so_far =
     ∙ sym (fold_more nearer_link (get_or links 0 d) (drop 1 links) (p - 1) other (omega (arith, from, lt, length-drop 1 links)))
     ∙ ap (λ (k : ℕ). nearest_link (get_or links 0 d) (take k (drop 1 links))) (let e : p - 1 + 1 ≡ p + 1 - 1 = omega (arith, from) in e)
 
+abbrev link_to : ℕ → Option ViewNo → ℕ → Link
+link_to v parent distance = record { view = view v; parent = parent; distance = distance }
+
 module _ (distance : Option ℕ → ℕ → ℕ) where
   -- the nearer link is that of the nearer view
   nearer_by : (joined : List ℕ) (v w : ℕ) (r : Bool) → (if r then reached distance joined w else reached distance joined v) ≡ reached distance joined (if r then w else v)
@@ -42,15 +45,15 @@ module _ (distance : Option ℕ → ℕ → ℕ) where
   -- ---- links when one more view has joined
 
   brought_by : (joined : List ℕ) (n v : ℕ) (r : Bool)
-      → (if r then record { view = view v; parent = Some (view n); distance = distance (Some n) v } else reached distance joined v)
-      ≡ record { view = view v; parent = point (if r then Some n else closest distance joined v); distance = distance (if r then Some n else closest distance joined v) v }
+      → (if r then link_to v (Some (view n)) (distance (Some n) v) else reached distance joined v)
+      ≡ link_to v (point (if r then Some n else closest distance joined v)) (distance (if r then Some n else closest distance joined v) v)
   brought_by joined n v true = refl
   brought_by joined n v false = refl
 
   pub brought_reached : (joined : List ℕ) (n v : ℕ) → brought distance (view n) (reached distance joined v) ≡ reached distance (joined ++ n ∷ []) v
   brought_reached joined n v =
       brought_by joined n v (nat_lt (distance (Some n) v) (reach distance joined v))
-      ∙ ap (λ (a : Option ℕ). record { view = view v; parent = point a; distance = distance a v }) (sym (fold_push (closer distance v) None joined n))
+      ∙ ap (λ (a : Option ℕ). link_to v (point a) (distance a v)) (sym (fold_push (closer distance v) None joined n))
 
   all_brought : (joined : List ℕ) (n : ℕ) (vs : List ℕ) → map (brought distance (view n)) (map (reached distance joined) vs) ≡ map (reached distance (joined ++ n ∷ [])) vs
   all_brought joined n [] = refl
