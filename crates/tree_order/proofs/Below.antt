@@ -11,9 +11,9 @@ use Rattle.tree_order.proofs.Metric.{IsMetric, to_view}
 use Rattle.tree_order.proofs.Nearest.{IsInside, inside_last, inside_more, nearest_among, nearest_least, reach_least}
 use Rattle.tree_order.proofs.Times.{AreOnce, Told, gone, itself, once_without, one, other, some_or_none, still, times, times-append, times-permutation}
 
-record Chain : Type 0 where
-  point : Option ℕ
-  views : List ℕ
+pub record Chain : Type 0 where
+  pub point : Option ℕ
+  pub views : List ℕ
 
 abbrev chain : Option ℕ → List ℕ → Chain
 chain point views = record { point = point; views = views }

@@ -6,4 +6,3 @@ pub mod Around
 pub mod Walks
 pub mod Links
 pub mod Results
-pub mod Orders

@@ -2,9 +2,11 @@
 use Rattle.std.proofs.Common.{◌≡◌, ◌≢◌, ◌∙◌, ℕ, zero, suc, ◌+◌, ◌-◌, ◌*◌, ◌<◌, ◌≤◌, ◌==◌, Bool, true, false, ◌&&◌, ◌||◌, if◌then◌else◌, nat_lt, List, [], ◌∷◌, ◌++◌, length, take, drop, map, fold, get_or, Option, Some, None, All, refl, sym, ap, ap₂, subst, arith, append_assoc, length-drop, get_or-drop}
 use Rattle.std.specs.Prelude.{sum_by}
 use Rattle.std.specs.List.{remove}
-use Rattle.std.proofs.lemmas.List.{append-nil, get_or-map, length-map, map-append}
+use Rattle.std.proofs.lemmas.List.{append-nil, get_or_default, get_or-map, length-map, map-append}
 use Rattle.std.proofs.lemmas.List.Sums.{fold_more, fold_push, sum_by_push}
 use Rattle.std.proofs.lemmas.List.Edits.{length-remove}
+use Rattle.std.proofs.lemmas.List.Elements.{All-map, All-tail}
+use Rattle.std.proofs.lemmas.List.Sorted.{All-permutation, IsPermutation-remove}
 use Rattle.graph_model.specs.declared.number.ViewNo.{ViewNo}
 use Rattle.view_matrix.specs.Matrices.{place_of}
 use Rattle.view_order.specs.Greedy.{is_nearer, nearer, nearest, numbers, without}
@@ -29,6 +31,17 @@ nearest_more links p best other d from lt is so_far =
 
 abbrev link_to : ℕ → Option ViewNo → ℕ → Link
 link_to v parent distance = record { view = view v; parent = parent; distance = distance }
+
+-- a link that is read at a place
+pub read_at : (links : List Link) (p a : ℕ) (x now : Link) → p < length links → a ≡ p → now ≡ x → x ≡ get_or links p x → now ≡ get_or links a now
+read_at links p a x now lt here same is =
+    same ∙ is ∙ get_or_default links p x now lt ∙ ap (λ (k : ℕ). get_or links k now) (sym here)
+
+pub nearer_then : (best x now : Link) (r : Bool) → r ≡ (nat_lt x.distance best.distance || (x.distance == best.distance && nat_lt x.view.0 best.view.0)) → r ≡ true → now ≡ x → now ≡ nearer_link best x
+nearer_then best x now r is test same = same ∙ ap (λ (b : Bool). if b then x else best) (sym test ∙ is)
+
+pub nearer_else : (best x now : Link) (r : Bool) → r ≡ (nat_lt x.distance best.distance || (x.distance == best.distance && nat_lt x.view.0 best.view.0)) → r ≡ false → now ≡ best → now ≡ nearer_link best x
+nearer_else best x now r is test same = same ∙ ap (λ (b : Bool). if b then x else best) (sym test ∙ is)
 
 module _ (distance : Option ℕ → ℕ → ℕ) where
   -- the nearer link is that of the nearer view
@@ -73,6 +86,14 @@ numbers_brought distance joined (link ∷ links) =
     ap₂ (λ (n : ℕ) (ns : List ℕ). n ∷ ns)
     (number_by (record { view = link.view; parent = Some joined; distance = distance (Some joined.0) link.view.0 }) link (nat_lt (distance (Some joined.0) link.view.0) link.distance) refl)
     (numbers_brought distance joined links)
+
+-- a link that was brought up to date is of the same view
+pub brought_within : (columns : ℕ) (distance : Option ℕ → ℕ → ℕ) (joined : ViewNo) (links : List Link) (i : ℕ) (x now : Link) → now ≡ brought distance joined x → x ≡ get_or links i x → i < length links
+    → All (λ (link : Link). link.view.0 < columns) links → now.view.0 < columns
+brought_within columns distance joined links i x now is at lt all =
+    let here : x.view.0 < columns = subst (λ (link : Link). link.view.0 < columns) (sym at) (all i x lt) in
+    omega (arith, here, ap (λ (link : Link). link.view.0) is,
+    number_by (record { view = x.view; parent = Some joined; distance = distance (Some joined.0) x.view.0 }) x (nat_lt (distance (Some joined.0) x.view.0) x.distance) refl)
 
 map_remove : (X Y : Type 0) (f : X → Y) (xs : List X) (i : ℕ) → map f (remove xs i) ≡ remove (map f xs) i
 map_remove X Y f [] zero = refl
@@ -176,3 +197,14 @@ module _ (distance : Option ℕ → ℕ → ℕ) where
       ap (λ (n : ℕ). weight distance (branches_of joined) + n) is
       ∙ sym (sum_by_push (λ (b : Branch). distance b.parent b.view) (branches_of joined) (branch_of next))
       ∙ ap (weight distance) (sym (map-append branch_of joined (next ∷ [])))
+
+-- ---- views of the matrix
+
+pub all_within : (columns : ℕ) (distance : Option ℕ → ℕ → ℕ) (joined : ViewNo) (links : List Link) → All (λ (link : Link). link.view.0 < columns) links → All (λ (link : Link). link.view.0 < columns) (map (brought distance joined) links)
+all_within columns distance joined links all =
+    All-map (λ (link : Link). link.view.0 < columns) (brought distance joined) links
+    (λ k e lt. brought_within columns distance joined links k (get_or links k e) (brought distance joined (get_or links k e)) refl (get_or_default links k e (get_or links k e) lt) lt all)
+
+pub all_left : (columns : ℕ) (links : List Link) (i : ℕ) (x : Link) → i < length links → x ≡ get_or links i x → All (λ (link : Link). link.view.0 < columns) links → All (λ (link : Link). link.view.0 < columns) (remove links i)
+all_left columns links i x lt is all =
+    All-tail (λ (link : Link). link.view.0 < columns) x (remove links i) (All-permutation (λ (link : Link). link.view.0 < columns) links (x ∷ remove links i) (IsPermutation-remove links i x lt is) all)

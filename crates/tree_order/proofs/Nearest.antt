@@ -14,8 +14,8 @@ beyond : (a b : ℕ) (c : Bool) → (nat_lt a b || (a == b && c)) ≡ false → 
 beyond a b c e = grind (arith, nat_tests)
 
 picked : (f : ℕ → ℕ) (v w : ℕ) (r : Bool) → (r ≡ true → f w ≤ f v) → (r ≡ false → f v ≤ f w) → (f (if r then w else v) ≤ f v) × (f (if r then w else v) ≤ f w)
-picked f v w true yes no = (yes refl, omega arith)
-picked f v w false yes no = (omega arith, no refl)
+picked f v w true below above = (below refl, omega arith)
+picked f v w false below above = (omega arith, above refl)
 
 nearer_le : (f : ℕ → ℕ) (v w : ℕ) → (f (nearer f v w) ≤ f v) × (f (nearer f v w) ≤ f w)
 nearer_le f v w = picked f v w (is_nearer f w v) (within (f w) (f v) (nat_lt w v)) (beyond (f w) (f v) (nat_lt w v))

@@ -48,6 +48,14 @@ module _ (m : MatrixData) (views : List ViewNo) (distinct : AreDistinct views) w
   abbrev far : Option ℕ → ℕ → ℕ
   far = distance_of m
 
+  -- the links that the walk gives
+  pub walked_is : (shown order none slice grown : List Link) → shown ≡ order → branches_of order ≡ branches_of none ++ walk None (branches_of slice) → none ≡ [] → slice ≡ grown
+      → branches_of grown ≡ tree far (numbers views) → branches_of shown ≡ tree_walk far (numbers views)
+  walked_is shown order none slice grown same walks empty those are =
+      ap branches_of same ∙ walks
+      ∙ ap₂ (λ (xs ys : List Link). branches_of xs ++ walk None (branches_of ys)) empty those
+      ∙ ap (walk None) are
+
   each_number : IsPermutation (numbers views) (views_of (tree_walk far (numbers views)))
   each_number =
       let once : AreOnce (numbers views) = once_distinct views distinct in

@@ -92,5 +92,6 @@ pub fn tree_order(alloc: Global, matrix: &Matrix, views: &[ViewNo]) -> Result<Tr
     let grown = grow(alloc, matrix, views)?;
     let mut links = List::new(alloc);
     walk(grown.links.as_slice(), None, &mut links)?;
-    measured(alloc, matrix, grown.weight, links.as_slice())
+    let found = measured(alloc, matrix, grown.weight, links.as_slice())?;
+    Ok(found)
 }
