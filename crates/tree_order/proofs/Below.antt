@@ -148,14 +148,21 @@ module _ (d : Option ℕ → Option ℕ → ℕ) (metric : IsMetric d) where
       let least : near next ≤ near p.head = nearest_least near v vs p.head head_in in
       let edge : near p.head ≤ far p.point p.head = reach_least far joined p.head p.point p.inside in
       let left_same : (x : ℕ) → times x (all_views left) ≡ times x (without next (v ∷ vs)) = λ x.
-          rest next x (times x (all_views left)) (v ∷ vs)
-          (omega (arith, same x, p.same x, c.same x, times-append x c.back (c.on ++ all_views p.others), times-append x c.on (all_views p.others)))
-          once among in
+      rest next x (times x (all_views left)) (v ∷ vs)
+      (omega (arith, same x, p.same x, c.same x, times-append x c.back (c.on ++ all_views p.others), times-append x c.on (all_views p.others)))
+      once among in
       let so_far : weight far (joins far n (joined ++ next ∷ []) (without next (v ∷ vs))) ≤ total left =
       below n (joined ++ next ∷ []) (without next (v ∷ vs)) left (once_without next (v ∷ vs) once) left_same
-      (inside_last joined next, inside_last joined next, inside_all joined next p.others p.all) in
-      omega (arith, so_far, least, edge, p.long, c.long,
-      sum_by-cons (λ (b : Branch). far b.parent b.view) (branch (closest far joined next) next) (joins far n (joined ++ next ∷ []) (without next (v ∷ vs))))
+      (inside_last joined next, (inside_last joined next, inside_all joined next p.others p.all)) in
+      omega (
+        arith,
+        so_far,
+        least,
+        edge,
+        p.long,
+        c.long,
+        sum_by-cons (λ (b : Branch). far b.parent b.view) (branch (closest far joined next) next) (joins far n (joined ++ next ∷ []) (without next (v ∷ vs))),
+      )
 
   pub tree_below : (views other : List ℕ) → AreOnce views → IsPermutation views other → weight far (tree far views) ≤ walked far None other
   tree_below views other once p =

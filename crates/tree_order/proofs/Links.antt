@@ -92,8 +92,12 @@ pub brought_within : (columns : ℕ) (distance : Option ℕ → ℕ → ℕ) (jo
     → All (λ (link : Link). link.view.0 < columns) links → now.view.0 < columns
 brought_within columns distance joined links i x now is at lt all =
     let here : x.view.0 < columns = subst (λ (link : Link). link.view.0 < columns) (sym at) (all i x lt) in
-    omega (arith, here, ap (λ (link : Link). link.view.0) is,
-    number_by (record { view = x.view; parent = Some joined; distance = distance (Some joined.0) x.view.0 }) x (nat_lt (distance (Some joined.0) x.view.0) x.distance) refl)
+    omega (
+      arith,
+      here,
+      ap (λ (link : Link). link.view.0) is,
+      number_by (record { view = x.view; parent = Some joined; distance = distance (Some joined.0) x.view.0 }) x (nat_lt (distance (Some joined.0) x.view.0) x.distance) refl,
+    )
 
 map_remove : (X Y : Type 0) (f : X → Y) (xs : List X) (i : ℕ) → map f (remove xs i) ≡ remove (map f xs) i
 map_remove X Y f [] zero = refl

@@ -109,9 +109,10 @@ module _ (distance : Option ℕ → ℕ → ℕ) where
   joins_grow (suc n) points joined [] are apart = tt
   joins_grow (suc n) points joined (v ∷ vs) are apart =
       let next = nearest (reach distance joined) v vs in
-      let among : 1 ≤ times next (v ∷ vs) = nearest_among (reach distance joined) v vs in
-      (one_seen points joined (closest distance joined next) are (λ x. omega (arith, apart x)) (closest_inside distance joined next),
-      joins_grow n (Some next ∷ points) (joined ++ next ∷ []) (without next (v ∷ vs)) (points_more points joined next are) (λ x. apart_by x next joined (v ∷ vs) (apart x) among (eqb_tells next x)))
+      let among : 1 ≤ times next (v ∷ vs) = nearest_among (reach distance joined) v vs in (
+        one_seen points joined (closest distance joined next) are (λ x. omega (arith, apart x)) (closest_inside distance joined next),
+        joins_grow n (Some next ∷ points) (joined ++ next ∷ []) (without next (v ∷ vs)) (points_more points joined next are) (λ x. apart_by x next joined (v ∷ vs) (apart x) among (eqb_tells next x)),
+      )
 
   pub walk_all : (views : List ℕ) → AreOnce views → IsPermutation (tree distance views) (tree_walk distance views)
   walk_all views once =

@@ -7,7 +7,7 @@ ghost use Rattle.view_order.specs.Greedy.{numbers};
 ghost use Rattle.tree_order.specs.Links.{branches_of, brought, reached};
 ghost use Rattle.tree_order.specs.Trees.{tree, weight};
 
-use crate::link::{brought, distance, nearest, Link};
+use crate::link::{Link, brought, distance, nearest};
 use graph_model::ViewNo;
 use std::alloc::Global;
 use surge_outside::{List, NoMemory};

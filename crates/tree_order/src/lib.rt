@@ -14,4 +14,4 @@ mod link;
 mod order;
 mod walk;
 
-pub use order::{tree_order, TreeOrder};
+pub use order::{TreeOrder, tree_order};

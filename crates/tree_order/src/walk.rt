@@ -5,7 +5,7 @@ ghost use Rattle.view_matrix.specs.Matrices.{place_of};
 ghost use Rattle.tree_order.specs.Links.{branches_of};
 ghost use Rattle.tree_order.specs.Trees.{walk};
 
-use crate::link::{is_same, Link};
+use crate::link::{Link, is_same};
 use graph_model::ViewNo;
 use surge_outside::{List, NoMemory};
 

@@ -1,5 +1,5 @@
 -- One link more.
-use Rattle.std.proofs.Common.{◌≡◌, ◌∙◌, ◌<◌, ℕ, List, Option, length, set, ap, arith}
+use Rattle.std.proofs.Common.{◌≡◌, ◌∙◌, ◌<◌, ℕ, List, Option, length, slice_set, ap, arith}
 use Rattle.std.proofs.lemmas.List.{get_or_default}
 use Rattle.std.proofs.lemmas.List.Edits.{map_over_more}
 use Rattle.std.proofs.lemmas.List.Elements.{All-set}
@@ -20,7 +20,7 @@ loop-link-preserved c =
     let first : i < length all = omega arith in
     record {
       brought =
-          ap (λ (link : Link). set links i link) c.brought.ensures
+          ap (λ (link : Link). slice_set links i link) c.brought.ensures
           ∙ map_over_more (brought d c.args.joined) all links i _ first c.loop-link.invariant.brought (get_or_default links i _ _ within);
       views =
           All-set (λ (link : Link). IsView m link.view) links i c.brought.result
