@@ -1,5 +1,5 @@
 // What bench/view_matrix/main.rt.txt times, in plain C++: the same edges, windows as trees of predicates, columns of words,
-// and the same greedy order.
+// the same greedy order, and the same tree order, from a table of all distances.
 
 #include <cstdint>
 #include <cstdio>
@@ -91,6 +91,48 @@ static uint64_t distance(const Matrix& matrix, const std::vector<uint64_t>& firs
     return total;
 }
 
+// The tree order by the table of all distances: between[v][count] is that of view v from the empty column. The tree's weight
+// and the order's length go where they are told.
+static std::vector<uint32_t> tree_order(const Matrix& matrix, uint32_t count, uint64_t& weight, uint64_t& length) {
+    std::vector<std::vector<uint64_t>> between(count, std::vector<uint64_t>(count + 1, 0));
+    for (uint32_t view = 0; view < count; view++) {
+        between[view][count] = distance(matrix, matrix.empty, matrix.columns[view]);
+        for (uint32_t other = 0; other < view; other++)
+            between[view][other] = between[other][view] = distance(matrix, matrix.columns[other], matrix.columns[view]);
+    }
+    std::vector<uint32_t> inside = {count};
+    std::vector<std::vector<uint32_t>> children(count + 1);
+    std::vector<bool> joined(count, false);
+    weight = 0;
+    while (inside.size() <= count) {
+        uint32_t next = count, parent = count;
+        for (uint32_t view = 0; view < count; view++)
+            for (uint32_t point : inside)
+                if (!joined[view] && (next == count || between[view][point] < between[next][parent])) next = view, parent = point;
+        joined[next] = true;
+        inside.push_back(next);
+        children[parent].push_back(next);
+        weight += between[next][parent];
+    }
+    std::vector<uint32_t> order, waiting(children[count].rbegin(), children[count].rend());
+    while (!waiting.empty()) {
+        uint32_t view = waiting.back();
+        waiting.pop_back();
+        order.push_back(view);
+        waiting.insert(waiting.end(), children[view].rbegin(), children[view].rend());
+    }
+    length = 0;
+    uint32_t last = count;
+    for (uint32_t view : order) length += between[view][last], last = view;
+    return order;
+}
+
+static uint64_t hash(const std::vector<uint32_t>& order) {
+    uint64_t sum = 0;
+    for (uint32_t view : order) sum = sum * 31 + view;
+    return sum;
+}
+
 static void timed(uint32_t edges, uint32_t count) {
     state = 1;
     Graph graph;
@@ -153,10 +195,15 @@ static void timed(uint32_t edges, uint32_t count) {
     }
     int64_t stream = processor_time() - start;
 
-    uint64_t sum = 0;
-    for (uint32_t view : order) sum = sum * 31 + view;
-    std::printf("%u views, order %llu, %llu differences\n", count, (unsigned long long)sum, (unsigned long long)differences);
-    std::printf("build_%u %lld\ngreedy_%u %lld\ndifferences_%u %lld\n", count, (long long)build, count, (long long)greedy, count, (long long)stream);
+    start = processor_time();
+    uint64_t weight, length;
+    std::vector<uint32_t> walk = tree_order(matrix, count, weight, length);
+    int64_t tree = processor_time() - start;
+
+    std::printf("%u views, order %llu, %llu differences, tree order %llu %llu %llu\n", count, (unsigned long long)hash(order),
+                (unsigned long long)differences, (unsigned long long)hash(walk), (unsigned long long)weight, (unsigned long long)length);
+    std::printf("build_%u %lld\ngreedy_%u %lld\ndifferences_%u %lld\ntree_%u %lld\n", count, (long long)build, count,
+                (long long)greedy, count, (long long)stream, count, (long long)tree);
 }
 
 int main() {

@@ -25,3 +25,32 @@ def distances(edges, order):
         found.append((view, distance(here, edges[view])))
         here = edges[view]
     return found
+
+
+def tree_order(edges):
+    """The walk through the tree that grows from no edge at all: each time the view outside joins that is nearest to one inside
+    or to no edge at all; ties go to the view declared first, and its parent is the nearest that joined first. Children are
+    walked in the order of joining. Each view of the order comes with its parent, None for no edge at all; with them come the
+    sum of the distances to the parents, and the length of the order."""
+    views = range(len(edges))
+    between = {(None, view): len(set(edges[view])) for view in views}
+    for one in views:
+        for other in range(one):
+            between[one, other] = between[other, one] = distance(edges[one], edges[other])
+    inside, left, children, weight = [None], list(views), {}, 0
+    while left:
+        least, view = min((min(between[point, view] for point in inside), view) for view in left)
+        parent = next(point for point in inside if between[point, view] == least)
+        left.remove(view)
+        inside.append(view)
+        children.setdefault(parent, []).append(view)
+        weight += least
+
+    def below(point):
+        for view in children.get(point, []):
+            yield view, point
+            yield from below(view)
+
+    walk = list(below(None))
+    length = sum(between[before, view] for before, (view, _) in zip([None] + [view for view, _ in walk], walk))
+    return walk, weight, length
