@@ -1,3 +1,4 @@
 //! Small graphs, worked out by hand.
 
 mod runs;
+mod views;
