@@ -1,4 +1,6 @@
-//! Small graphs, worked out by hand.
+//! Small graphs and values, worked out by hand.
 
+mod below;
+mod gathers;
 mod runs;
 mod views;
