@@ -1,5 +1,5 @@
 -- Operations on the value with which a node started, and the value that it has.
-use Rattle.std.specs.Prelude.{Bool, List, [], ◌∷◌}
+use Rattle.std.specs.Prelude.{Bool, [], ◌∷◌}
 use Rattle.vertex_lang.specs.declared.program.Expr.{Expr}
 use Rattle.vertex_lang.specs.declared.program.Expr.TheVariants as expr
 
