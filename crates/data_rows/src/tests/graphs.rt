@@ -1,51 +1,14 @@
-//! Graphs of small data files, and edges added to one.
+//! An edge that is added to the graph of small data files. (How that graph was before stands in `places`.)
 
 ghost use Rattle.std.specs.Prelude.{◌≡◌, ◌≢◌, ◌<◌, [], ◌∷◌, length, map, All, Some, IfOk, IsTrue};
 ghost use Rattle.graph_model.specs.GraphData.{kind_of, cell_count, lowest_number, EndsAmong, HasNoLowest};
 
-use graph_loader::load;
-use graph_model::{Cells, Column, EdgeNo, Graph, Kind, NodeNo};
-use std::alloc::{AllocError, Global};
+use crate::tests::places::edges_text;
+use crate::tests::small_graphs::{FOUR_EDGES, FOUR_NODES, graph_of};
+use graph_model::{Cells, Column, Graph, Kind, NodeNo};
+use std::alloc::Global;
 use std::test::Fail;
 use surge_outside::{List, NoMemory};
-
-/// Four nodes.
-const NODES: &str = "id\n1\n2\n3\n4\n";
-
-/// Four edges with a number.
-const EDGES: &str = "src,dst,y:int\n1,2,1\n2,3,1\n1,3,2\n3,4,3\n";
-
-// The nodes by rising id.
-fn order_text(alloc: Global, graph: &Graph) -> Result<String, AllocError> {
-    let mut text = String::new(alloc);
-    for i in 0..graph.node_count() {
-        text.push_str(format!(in alloc; " {}", graph.by_id(i).0)?.as_str())?;
-    }
-    Ok(text)
-}
-
-// The cells of an edge.
-fn cells_text(alloc: Global, graph: &Graph, e: EdgeNo) -> Result<String, AllocError>
-    requires { e.0 < length graph.now.ends }
-{
-    let mut text = String::new(alloc);
-    for column in 0..graph.edge_columns().len() {
-        text.push_str(format!(in alloc; " {:?}", graph.edge_cell(e, column))?.as_str())?;
-    }
-    Ok(text)
-}
-
-// Each edge by its ends, with its cells.
-fn edges_text(alloc: Global, graph: &Graph) -> Result<String, AllocError> {
-    let mut text = String::new(alloc);
-    for e in 0..graph.edge_count() {
-        let edge = EdgeNo(e);
-        let cells = cells_text(alloc, graph, edge)?;
-        let part = format!(in alloc; "{}>{}:{cells};", graph.src(edge).0, graph.dst(edge).0)?;
-        text.push_str(part.as_str())?;
-    }
-    Ok(text)
-}
 
 fn is_of_numbers(kind: Kind) -> bool
     ensures { IsTrue result → kind ≡ Kind.Int }
@@ -103,44 +66,24 @@ fn add_nine(alloc: Global, graph: &mut Graph) -> Result<bool, NoMemory> {
     Ok(true)
 }
 
-// The graph of three nodes. Nothing is said of it, so that no proof reads its files.
-fn three_nodes(alloc: Global) -> Result<Graph, Fail> {
-    let graph = load(alloc, b"id\n10\n2\n7\n", b"src,dst\n")?;
+// The graph of the four edges, and one more.
+fn five_edges(alloc: Global) -> Result<Graph, Fail> {
+    let mut graph = graph_of(alloc, FOUR_NODES, FOUR_EDGES)?;
+    add_nine(alloc, &mut graph)?;
     Ok(graph)
 }
 
-// The graph of the four edges.
-fn four_edges(alloc: Global) -> Result<Graph, Fail> {
-    let graph = load(alloc, NODES.as_bytes(), EDGES.as_bytes())?;
-    Ok(graph)
-}
-
-// The edges before one is added, whether it was, and how many there are then and which.
-fn before_and_behind(alloc: Global) -> Result<String, Fail> {
-    let mut graph = four_edges(alloc)?;
-    let mut text = edges_text(alloc, &graph)?;
-    let is_added = add_nine(alloc, &mut graph)?;
-    text.push_str(format!(in alloc; " {is_added} {} ", graph.edge_count())?.as_str())?;
-    text.push_str(edges_text(alloc, &graph)?.as_str())?;
-    Ok(text)
-}
-
-#[test]
-fn nodes_are_found_by_id(rt: HostRuntime) -> Result<(), Fail> {
-    let graph = three_nodes(rt.alloc())?;
-    let order = order_text(rt.alloc(), &graph)?;
-    assert_eq!(rt; order.as_str(), " 1 2 0");
-    assert_eq!(rt; graph.find(7), Some(NodeNo(2)));
-    assert_eq!(rt; graph.find(5), None);
-    Ok(())
+fn edges_behind(alloc: Global) -> Result<String, Fail> {
+    let graph = five_edges(alloc)?;
+    Ok(edges_text(alloc, &graph)?)
 }
 
 #[test]
 fn added_edges_come_last(rt: HostRuntime) -> Result<(), Fail> {
-    let text = before_and_behind(rt.alloc())?;
+    let edges = edges_behind(rt.alloc())?;
     assert_eq!(rt;
-        text.as_str(),
-        "0>1: Int(1);1>2: Int(1);0>2: Int(2);2>3: Int(3); true 5 0>1: Int(1);1>2: Int(1);0>2: Int(2);2>3: Int(3);3>0: Int(9);"
+        edges.as_str(),
+        "0>1 Int(1) 1>2 Int(1) 0>2 Int(2) 2>3 Int(3) 3>0 Int(9) "
     );
     Ok(())
 }

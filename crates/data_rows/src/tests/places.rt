@@ -3,56 +3,85 @@
 
 ghost use Rattle.std.specs.Prelude.{◌<◌, length};
 
-use graph_loader::load;
-use graph_model::{CellRef, Column, EdgeNo, Graph, Kind, NodeNo};
+use crate::tests::small_graphs::{FOUR_EDGES, FOUR_NODES, graph_of};
+use graph_model::{EdgeNo, Graph, NodeNo};
 use std::alloc::{AllocError, Global};
 use std::test::Fail;
-use surge_outside::List;
 
-// A cell with a comma before it: a text stands in single quotes, and an absent cell is a hyphen.
-fn cell_text(alloc: Global, cell: CellRef<'_>) -> Result<String, AllocError> {
-    match cell {
-        CellRef::Absent => format!(in alloc; ",-"),
-        CellRef::Int(number) => format!(in alloc; ",{number}"),
-        CellRef::Str(text) => format!(in alloc; ",'{text}'"),
-        CellRef::Bool(truth) => format!(in alloc; ",{truth}"),
-    }
-}
+// Two files, and what they load as: of the nodes the columns, whether one has the id 5, and then of each its id, the node
+// that is found by this id, its cells, and which node stands at its place by rising id; of the edges the columns, and then
+// of each its ends and its cells.
+const FILES: [[&str; 3]; 5] = [
+    // Ids that neither rise nor fall, and edges whose ends don't either.
+    [
+        "id\n7\n100\n0\n4\n",
+        "src,dst\n0,7\n100,4\n7,100\n4,0\n",
+        "[] None 7=0;2 100=1;3 0=2;0 4=3;1 / [] 2>0 1>3 0>1 3>2 ",
+    ],
+    // The graph to which an edge is added elsewhere.
+    [
+        FOUR_NODES,
+        FOUR_EDGES,
+        concat!(
+            "[] None 1=0;0 2=1;1 3=2;2 4=3;3 / [Column { name: Text { text: \"y\" }, kind: Int }] ",
+            "0>1 Int(1) 1>2 Int(1) 0>2 Int(2) 2>3 Int(3) ",
+        ),
+    ],
+    // The last node has the middle id.
+    [
+        "id\n10\n2\n7\n",
+        "src,dst\n",
+        "[] None 10=0;1 2=1;2 7=2;0 / [] ",
+    ],
+    // Columns of each kind.
+    [
+        "id,city:str,vip:bool\r\n10,Los Angeles,true\r\n20,\"San Jose, CA\",false\r\n30,Reno,\r\n40,,True\r\n",
+        "src,dst,duration:int,year:int\r\n10,20,7,2010\r\n20,30,12,\r\n",
+        concat!(
+            "[Column { name: Text { text: \"city\" }, kind: Str }, Column { name: Text { text: \"vip\" }, kind: Bool }] ",
+            "None 10=0 Str(\"Los Angeles\") Bool(true);0 20=1 Str(\"San Jose, CA\") Bool(false);1 ",
+            "30=2 Str(\"Reno\") Absent;2 40=3 Str(\"\") Bool(true);3 / ",
+            "[Column { name: Text { text: \"duration\" }, kind: Int }, Column { name: Text { text: \"year\" }, kind: Int }] ",
+            "0>1 Int(7) Int(2010) 1>2 Int(12) Absent ",
+        ),
+    ],
+    // A name in quotes, with a comma and a colon.
+    [
+        "\"id\",\"a,b:c:int\"\n\"1\",\"5\"\n\n2,-0",
+        "src,dst,s:str\n1,2,\"say \"\"hi\"\"\"\n",
+        concat!(
+            "[Column { name: Text { text: \"a,b:c\" }, kind: Int }] None 1=0 Int(5);0 2=1 Int(0);1 / ",
+            "[Column { name: Text { text: \"s\" }, kind: Str }] 0>1 Str(\"say \\\"hi\\\"\") ",
+        ),
+    ],
+];
 
-// The name and the kind of each column.
-fn columns_text(alloc: Global, columns: &List<Column>) -> Result<String, AllocError> {
-    let mut text = String::new(alloc);
-    for column in columns.as_slice() {
-        text.push_str(column.name.as_str())?;
-        let kind = match column.kind {
-            Kind::Int => ":int ",
-            Kind::Str => ":str ",
-            Kind::Bool => ":bool ",
-        };
-        text.push_str(kind)?;
-    }
-    Ok(text)
-}
-
-// The id of a node and its cells.
+// The id of a node, the number of the node with this id, and its cells.
 fn node_text(alloc: Global, graph: &Graph, n: NodeNo) -> Result<String, AllocError>
     requires { n.0 < length graph.now.ids }
 {
-    let mut text = format!(in alloc; "{}", graph.id(n))?;
+    let id = graph.id(n);
+    let found = match graph.find(id) {
+        Some(node) => node.0,
+        None => u32::MAX,
+    };
+    let mut text = format!(in alloc; "{id}={found}")?;
     for column in 0..graph.node_columns().len() {
-        let cell = cell_text(alloc, graph.node_cell(n, column))?;
+        let cell = format!(in alloc; " {:?}", graph.node_cell(n, column))?;
         text.push_str(cell.as_str())?;
     }
     Ok(text)
 }
 
-// The columns of the nodes, and then the nodes.
+// The columns of the nodes, the node with the id 5, which none has, and then the nodes, each with the number of the node at
+// its place by rising id.
 fn nodes_text(alloc: Global, graph: &Graph) -> Result<String, AllocError> {
-    let mut text = columns_text(alloc, graph.node_columns())?;
+    let columns = graph.node_columns().as_slice();
+    let mut text = format!(in alloc; "{columns:?} {:?} ", graph.find(5))?;
     for n in 0..graph.node_count() {
         let node = node_text(alloc, graph, NodeNo(n))?;
-        text.push_str(node.as_str())?;
-        text.push_str(" ")?;
+        let part = format!(in alloc; "{node};{} ", graph.by_id(n).0)?;
+        text.push_str(part.as_str())?;
     }
     Ok(text)
 }
@@ -63,15 +92,15 @@ fn edge_text(alloc: Global, graph: &Graph, e: EdgeNo) -> Result<String, AllocErr
 {
     let mut text = format!(in alloc; "{}>{}", graph.src(e).0, graph.dst(e).0)?;
     for column in 0..graph.edge_columns().len() {
-        let cell = cell_text(alloc, graph.edge_cell(e, column))?;
+        let cell = format!(in alloc; " {:?}", graph.edge_cell(e, column))?;
         text.push_str(cell.as_str())?;
     }
     Ok(text)
 }
 
-// The columns of the edges, and then the edges.
-fn edges_text(alloc: Global, graph: &Graph) -> Result<String, AllocError> {
-    let mut text = columns_text(alloc, graph.edge_columns())?;
+/// The edges, each by the numbers of its ends, with its cells.
+pub(crate) fn edges_text(alloc: Global, graph: &Graph) -> Result<String, AllocError> {
+    let mut text = String::new(alloc);
     for e in 0..graph.edge_count() {
         let edge = edge_text(alloc, graph, EdgeNo(e))?;
         text.push_str(edge.as_str())?;
@@ -80,64 +109,24 @@ fn edges_text(alloc: Global, graph: &Graph) -> Result<String, AllocError> {
     Ok(text)
 }
 
-// What two files load as. Nothing is said of it, so that no proof reads the files.
-fn loaded(alloc: Global, nodes: &[u8], edges: &[u8]) -> Result<String, Fail> {
-    let graph = load(alloc, nodes, edges)?;
-    let nodes = nodes_text(alloc, &graph)?;
-    let edges = edges_text(alloc, &graph)?;
-    Ok(format!(in alloc; "{nodes}/ {edges}")?)
+fn graph_text(alloc: Global, graph: &Graph) -> Result<String, AllocError> {
+    let nodes = nodes_text(alloc, graph)?;
+    let edges = edges_text(alloc, graph)?;
+    let columns = graph.edge_columns().as_slice();
+    format!(in alloc; "{nodes}/ {columns:?} {edges}")
 }
 
-// Ids that neither rise nor fall, and edges whose ends don't either.
-fn mixed_ids(alloc: Global) -> Result<String, Fail> {
-    loaded(
-        alloc,
-        b"id\n7\n100\n0\n4\n",
-        b"src,dst\n0,7\n100,4\n7,100\n4,0\n",
-    )
-}
-
-// Columns of each kind.
-fn two_columns_each(alloc: Global) -> Result<String, Fail> {
-    loaded(
-        alloc,
-        b"id,city:str,vip:bool\r\n10,Los Angeles,true\r\n20,\"San Jose, CA\",false\r\n30,Reno,\r\n40,,True\r\n",
-        b"src,dst,duration:int,year:int\r\n10,20,7,2010\r\n20,30,12,\r\n",
-    )
-}
-
-// A name in quotes, with a comma and a colon.
-fn quoted_name(alloc: Global) -> Result<String, Fail> {
-    loaded(
-        alloc,
-        b"\"id\",\"a,b:c:int\"\n\"1\",\"5\"\n\n2,-0",
-        b"src,dst,s:str\n1,2,\"say \"\"hi\"\"\"\n",
-    )
+// What two files load as.
+fn loaded(alloc: Global, nodes: &str, edges: &str) -> Result<String, Fail> {
+    let graph = graph_of(alloc, nodes, edges)?;
+    Ok(graph_text(alloc, &graph)?)
 }
 
 #[test]
-fn numbers_of_nodes_and_edges(rt: HostRuntime) -> Result<(), Fail> {
-    let text = mixed_ids(rt.alloc())?;
-    assert_eq!(rt; text.as_str(), "7 100 0 4 / 2>0 1>3 0>1 3>2 ");
-    Ok(())
-}
-
-#[test]
-fn numbers_of_columns(rt: HostRuntime) -> Result<(), Fail> {
-    let text = two_columns_each(rt.alloc())?;
-    assert_eq!(rt;
-        text.as_str(),
-        "city:str vip:bool 10,'Los Angeles',true 20,'San Jose, CA',false 30,'Reno',- 40,'',true / duration:int year:int 0>1,7,2010 1>2,12,- "
-    );
-    Ok(())
-}
-
-#[test]
-fn names_and_kinds_of_columns(rt: HostRuntime) -> Result<(), Fail> {
-    let text = quoted_name(rt.alloc())?;
-    assert_eq!(rt;
-        text.as_str(),
-        "a,b:c:int 1,5 2,0 / s:str 0>1,'say \"hi\"' "
-    );
+fn numbers_are_places_in_the_files(rt: HostRuntime) -> Result<(), Fail> {
+    for [nodes, edges, wanted] in &FILES {
+        let found = loaded(rt.alloc(), nodes, edges)?;
+        assert_eq!(rt; found.as_str(), *wanted);
+    }
     Ok(())
 }
