@@ -1,9 +1,9 @@
 -- The nearest view, and the point inside that is nearest to a view.
-use Rattle.std.proofs.Common.{◌≡◌, ◌≢◌, ◌∙◌, ℕ, ◌+◌, ◌<◌, ◌≤◌, ◌==◌, ◌⊎◌, inl, inr, Bool, true, false, ◌&&◌, ◌||◌, cond, if◌then◌else◌, nat_lt, List, [], ◌∷◌, ◌++◌, fold, Option, Some, None, refl, sym, ap, subst, arith}
+use Rattle.std.proofs.Common.{◌≡◌, ℕ, ◌+◌, ◌≤◌, ◌==◌, inl, inr, Bool, true, false, ◌&&◌, ◌||◌, if◌then◌else◌, nat_lt, List, [], ◌∷◌, ◌++◌, fold, Option, Some, None, refl, ap, subst, arith}
 use Rattle.std.proofs.lemmas.Bool.Decides.{eqb_tells, nat_tests}
 use Rattle.view_order.specs.Greedy.{is_nearer, nearer, nearest}
 use Rattle.tree_order.specs.Trees.{closer, closest, reach}
-use Rattle.tree_order.proofs.Times.{Told, itself, one, some_or_none, times, times-append}
+use Rattle.tree_order.proofs.Times.{Told, itself, one, times, times-append}
 
 -- ---- the nearest view
 

@@ -1,17 +1,17 @@
 -- What is promised of the order, from the tree.
-use Rattle.std.proofs.Common.{◌≡◌, ◌∙◌, ℕ, zero, suc, ◌+◌, ◌*◌, ◌<◌, ◌≤◌, ◌==◌, ◌⊎◌, inl, inr, List, [], ◌∷◌, ◌++◌, length, map, get_or, Option, Some, None, All, refl, sym, ap, ap₂, subst, arith}
+use Rattle.std.proofs.Common.{◌≡◌, ◌∙◌, ℕ, zero, suc, ◌*◌, ◌<◌, ◌≤◌, inl, inr, List, [], ◌∷◌, ◌++◌, length, map, Option, None, All, refl, sym, ap, ap₂, subst, arith}
 use Rattle.std.specs.Prelude.{IsPermutation}
 use Rattle.std.proofs.lemmas.Bool.Decides.{eqb_tells}
 use Rattle.std.proofs.lemmas.List.{length-map}
 use Rattle.std.proofs.lemmas.List.Sorted.{IsPermutation-map, IsPermutation-trans, All-permutation, length_permutation, sum_by-IsPermutation}
 use Rattle.graph_model.specs.declared.number.ViewNo.{ViewNo}
 use Rattle.graph_model.specs.GraphData.{AreDistinct}
-use Rattle.view_matrix.specs.Matrices.{MatrixData, distance_of, place_of, IsView}
+use Rattle.view_matrix.specs.Matrices.{MatrixData, distance_of, IsView}
 use Rattle.view_order.specs.Greedy.{numbers}
 use Rattle.view_order.specs.Places.{view}
 use Rattle.tree_order.specs.declared.link.Link.{Link}
-use Rattle.tree_order.specs.Links.{branch_of, branches_of, numbers_of}
-use Rattle.tree_order.specs.Trees.{Branch, parents_of, tree, tree_walk, views_of, walk, walked, weight}
+use Rattle.tree_order.specs.Links.{branches_of, numbers_of}
+use Rattle.tree_order.specs.Trees.{Branch, tree, tree_walk, views_of, walk, walked, weight}
 use Rattle.tree_order.proofs.Metric.{between, between_metric}
 use Rattle.tree_order.proofs.Times.{AreOnce, Told, few, once_distinct, one, times}
 use Rattle.tree_order.proofs.Below.{tree_below}

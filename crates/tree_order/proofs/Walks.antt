@@ -1,13 +1,13 @@
 -- The walk comes to each view of the tree once.
-use Rattle.std.proofs.Common.{◌≡◌, ◌≢◌, ◌∙◌, ℕ, zero, suc, ◌+◌, ◌<◌, ◌≤◌, ◌==◌, ◌⊎◌, inl, inr, Bool, true, false, if◌then◌else◌, List, [], ◌∷◌, ◌++◌, length, map, Option, Some, None, refl, sym, ap, subst, arith, append_assoc}
+use Rattle.std.proofs.Common.{◌≡◌, ◌∙◌, ℕ, zero, suc, ◌+◌, ◌≤◌, ◌==◌, inl, inr, Bool, true, false, if◌then◌else◌, List, [], ◌∷◌, ◌++◌, length, Option, Some, None, refl, sym, ap, subst, arith, append_assoc}
 use Rattle.std.specs.Prelude.{IsPermutation}
 use Rattle.std.proofs.lemmas.Bool.Decides.{eqb_tells}
 use Rattle.std.proofs.lemmas.List.{append-nil}
-use Rattle.std.proofs.lemmas.List.Sorted.{IsPermutation-refl, IsPermutation-cons, IsPermutation-trans, IsPermutation-sym, IsPermutation-append_comm, IsPermutation-append_left, IsPermutation-append_right}
+use Rattle.std.proofs.lemmas.List.Sorted.{IsPermutation-refl, IsPermutation-cons, IsPermutation-trans, IsPermutation-append_comm, IsPermutation-append_left, IsPermutation-append_right}
 use Rattle.view_order.specs.Greedy.{nearest, without}
-use Rattle.tree_order.specs.Trees.{Branch, branch, closest, is_same, joins, reach, tree, tree_walk, views_of, walk}
+use Rattle.tree_order.specs.Trees.{Branch, closest, is_same, joins, reach, tree, tree_walk, views_of, walk}
 use Rattle.tree_order.proofs.Nearest.{IsInside, closest_inside, nearest_among}
-use Rattle.tree_order.proofs.Times.{AreOnce, Told, gone, itself, length_without, once_without, one, one_out, still, times, times-append}
+use Rattle.tree_order.proofs.Times.{AreOnce, Told, gone, length_without, once_without, one, one_out, still, times, times-append}
 
 -- how often a point is among these
 abbrev seen : Option ℕ → List (Option ℕ) → ℕ

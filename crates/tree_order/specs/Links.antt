@@ -1,5 +1,5 @@
 -- Inside: what the tree keeps of a view while it grows.
-use Rattle.std.specs.Prelude.{◌≡◌, ℕ, ◌==◌, ◌&&◌, ◌||◌, nat_lt, Bool, if◌then◌else◌, List, map, fold, Option, Some, None}
+use Rattle.std.specs.Prelude.{ℕ, ◌==◌, ◌&&◌, ◌||◌, nat_lt, if◌then◌else◌, List, map, fold, Option, Some, None}
 use Rattle.graph_model.specs.declared.number.ViewNo.{ViewNo}
 use Rattle.view_matrix.specs.Matrices.{place_of}
 use Rattle.view_order.specs.Places.{view}

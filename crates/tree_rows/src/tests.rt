@@ -8,7 +8,7 @@ use graph_model::Graph;
 use std::alloc::{AllocError, Global};
 use std::test::Fail;
 use surge_outside::{List, NoMemory};
-use tree_order::{tree_order, TreeOrder};
+use tree_order::{TreeOrder, tree_order};
 use view_matrix::Matrix;
 use view_order::views_from;
 

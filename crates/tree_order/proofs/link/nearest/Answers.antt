@@ -1,5 +1,5 @@
 -- One link more.
-use Rattle.std.proofs.Common.{◌≡◌, ◌∙◌, ◌<◌, ℕ, Bool, length, take, drop, get_or, sym, arith}
+use Rattle.std.proofs.Common.{◌∙◌, ◌<◌, ℕ, length, arith}
 use Rattle.std.proofs.lemmas.List.{get_or_default}
 use Rattle.tree_order.specs.declared.link.Link.{Link}
 use Rattle.tree_order.proofs.Links.{nearer_else, nearer_then, nearest_more, read_at}

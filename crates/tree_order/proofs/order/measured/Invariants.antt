@@ -1,4 +1,4 @@
-use Rattle.std.proofs.Common.{◌≡◌, ◌+◌, ◌*◌, ◌≤◌, ◌++◌, map, take, drop}
+use Rattle.std.proofs.Common.{◌≡◌, ◌+◌, ◌*◌, ◌≤◌, map, take, drop}
 use Rattle.view_matrix.specs.Matrices.{distance_of, place_of, IsColumn}
 use Rattle.view_order.specs.Greedy.{numbers}
 use Rattle.tree_order.specs.Links.{branches_of, numbers_of}

@@ -1,10 +1,9 @@
 -- The walk through the tree, measured.
-use Rattle.std.proofs.Common.{◌≡◌, ◌∙◌, ℕ, List, Option, None, length, sym, ap, arith}
+use Rattle.std.proofs.Common.{◌≡◌, ◌∙◌, None, sym, ap, arith}
 use Rattle.view_matrix.specs.Matrices.{distance_of}
 use Rattle.view_order.specs.Greedy.{numbers}
-use Rattle.tree_order.specs.declared.link.Link.{Link}
 use Rattle.tree_order.specs.Links.{branches_of}
-use Rattle.tree_order.specs.Trees.{parents_of, tree, tree_walk, views_of, walked, weight}
+use Rattle.tree_order.specs.Trees.{parents_of, tree_walk, walked}
 use Rattle.tree_order.proofs.Results.{each_view, length_walked, near_enough, no_shorter, numbers_walked, views_walked, walked_is}
 use Rattle.tree_order.proofs.order.tree_order.Goals as goal
 
