@@ -1,0 +1,10 @@
+//! A row of a table.
+
+use graph_model::Val;
+
+/// A row of a table: the id of a node, below 2^63, and the node's value.
+#[derive(Clone, Copy, Debug, PartialEq, Eq)]
+pub struct Row {
+    pub id: u64,
+    pub value: Val,
+}

@@ -1,0 +1,94 @@
+//! Writes tables as blocks of a change text.
+
+ghost use Rattle.std.specs.Prelude.{◌≡◌, ◌≤◌, length, IfOk, OnOk, OnErr, option_copied};
+ghost use Rattle.surge_outside.specs.Counts.{HasRisen};
+ghost use Rattle.surge_outside.specs.Written.{GrewByFront, appended};
+ghost use Rattle.result_tables.specs.TableText.{IsTable};
+ghost use Rattle.change_text.specs.Spelling.{block_text};
+ghost use Rattle.change_text.specs.Writing.{IsTableBefore, IsTableHead, block_of, changed_rows};
+
+use crate::kind::Kind;
+use crate::row::Row;
+use crate::text::{Frame, push_block};
+use graph_model::{Graph, Val};
+use result_tables::{Form, Table, write_table};
+use std::alloc::Global;
+use surge_outside::{NoMemory, Sink, Trouble, put_all};
+use vertex_lang::Outcome;
+
+// Whether a table whose run ended so has rows.
+fn is_shown(outcome: Outcome) -> bool {
+    match outcome {
+        Outcome::Unsettled => false,
+        _ => true,
+    }
+}
+
+// The rows of the nodes whose values differ, by rising id.
+fn rows_that_differ(
+    alloc: Global,
+    graph: &Graph,
+    before: &[Val],
+    values: &[Val],
+) -> Result<Vec<Row>, NoMemory> {
+    let mut rows = Vec::new(alloc);
+    for place in 0..graph.node_count() {
+        let node = graph.by_id(place);
+        let value = values[node.0 as usize];
+        if before[node.0 as usize] != value {
+            rows.push(Row {
+                id: graph.id(node),
+                value,
+            })?;
+        }
+    }
+    Ok(rows)
+}
+
+// The text of a change block.
+fn change_text(
+    alloc: Global,
+    head: &[u8],
+    graph: &Graph,
+    before: &Table,
+    table: &Table,
+) -> Result<Vec<u8>, NoMemory> {
+    let rows = rows_that_differ(alloc, graph, before.values.as_slice(), table.values.as_slice())?;
+    let mut text = Vec::new(alloc);
+    let frame = Frame {
+        kind: Kind::Change,
+        head: &head[5..],
+        outcome: table.outcome,
+    };
+    push_block(&mut text, frame, rows.as_slice())?;
+    Ok(text)
+}
+
+/// Writes a table as a block of a change text, as one piece, and then the rest of it while the sink takes less: as a change
+/// block, with exactly the rows that differ from those of the table before, where there is one and neither is unsettled, and
+/// else as a full block. `head` is what the table is of, without outcome and line end, and begins with the word `view`, in
+/// whose place a change block has `change`. A change block costs the nodes once, and the text of its rows.
+///
+/// # Errors
+///
+/// [`Trouble::Failed`] where a write failed, which the sink counts, and [`Trouble::NoMemory`] where memory was wanting.
+/// Then a front of the text went out.
+pub fn write_change<O: Sink>(
+    alloc: Global,
+    head: &[u8],
+    graph: &Graph,
+    before: Option<&Table>,
+    table: &Table,
+    out: &mut O,
+) -> Result<(), Trouble>
+{
+    match before {
+        Some(before) if is_shown(before.outcome) && is_shown(table.outcome) => {
+            match change_text(alloc, head, graph, before, table) {
+                Ok(text) => put_all(out, text.as_slice()),
+                Err(NoMemory) => Err(Trouble::NoMemory),
+            }
+        }
+        _ => write_table(alloc, head, Form::Tables, 0, graph, table, out),
+    }
+}
