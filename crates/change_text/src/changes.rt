@@ -1,11 +1,13 @@
 //! Reads change texts.
 
 ghost use Rattle.std.specs.Prelude.{◌≡◌, ◌≤◌, ◌^◌, length, IfOk, IfErr};
+ghost use Rattle.change_text.specs.Blocks.{AreBlocks};
 ghost use Rattle.change_text.specs.Reading.{IsChanges, IsError};
+ghost use Rattle.change_text.specs.Inside.{AreEnds, blocks_of};
 
 use crate::fault::{ReplayError, ReplayFault};
 use crate::flat::{Flat, Parts};
-use crate::line::cut_line;
+use crate::line::cut_first;
 use crate::reader::Reader;
 use std::alloc::Global;
 use std::marker::Model;
@@ -29,13 +31,19 @@ impl Model for ChangeText {
 
 impl ChangeText {
     /// What the blocks lie in.
-    pub(crate) fn parts(&self) -> Parts<'_> {
+    pub(crate) fn parts(&self) -> Parts<'_>
+        ensures are { AreEnds result.ends.now result.heads.now result.rows.now }
+        ensures blocks { blocks_of result.ends.now result.heads.now result.rows.now ≡ self.now }
+        ensures changes { AreBlocks self.now }
+    {
         self.flat.parts()
     }
 }
 
 // The error of a line.
-fn bad(line: u32) -> ReplayError {
+fn bad(line: u32) -> ReplayError
+    ensures { result ≡ ReplayError.Fault (ReplayFault.Line line) }
+{
     ReplayError::Fault(ReplayFault::Line(line))
 }
 
@@ -56,7 +64,7 @@ pub fn read_changes(alloc: Global, text: &[u8]) -> Result<ChangeText, ReplayErro
     let mut rest = text;
     let mut number = 1;
     while !rest.is_empty() {
-        let Some((line, behind)) = cut_line(rest) else {
+        let Some((line, behind)) = cut_first(rest, b'\n') else {
             return Err(bad(number));
         };
         if !reader.take_line(line)? {

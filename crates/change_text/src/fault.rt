@@ -3,9 +3,8 @@
 ghost use Rattle.std.specs.Prelude.{◌≡◌};
 ghost use Rattle.change_text.specs.declared.fault.ReplayError.TheVariants as error;
 ghost use Rattle.change_text.specs.declared.fault.ReplayStop.TheVariants as stop;
-ghost use Rattle.change_text.specs.Inside.{stop_of};
 
-use surge_outside::{NoMemory, Trouble};
+use surge_outside::NoMemory;
 use thiserror::Error;
 
 /// What is wrong with a change text.
@@ -54,16 +53,5 @@ impl From<NoMemory> for ReplayStop {
 
     fn from(_error: NoMemory) -> ReplayStop {
         ReplayStop::NoMemory
-    }
-}
-
-impl From<Trouble> for ReplayStop {
-    ghost from_gives = { λ trouble made. made ≡ stop_of trouble };
-
-    fn from(trouble: Trouble) -> ReplayStop {
-        match trouble {
-            Trouble::Failed => ReplayStop::Failed,
-            Trouble::NoMemory => ReplayStop::NoMemory,
-        }
     }
 }

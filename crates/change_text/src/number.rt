@@ -1,10 +1,9 @@
 //! Whole numbers as they are spelled: with no leading zeros.
 
-ghost use Rattle.std.specs.Prelude.{◌≡◌, ◌≢◌, ℕ, ◌<◌, ◌^◌, IfSome, IfNone};
-ghost use Rattle.std.specs.Fmt.{decimal};
-ghost use Rattle.change_text.specs.Blocks.{IsValue};
-ghost use Rattle.result_tables.specs.TableText.{value_text};
-ghost use Rattle.graph_model.specs.declared.value.Val.{Val};
+ghost use Rattle.std.specs.Prelude.{◌≡◌, ◌∷◌, ◌<◌, ◌≤◌, ◌^◌, true, None, IfSome, IfNone, length};
+ghost use Rattle.std.specs.Str.{all_ascii_digits};
+ghost use Rattle.std.specs.Str.Parse.{digits_value};
+ghost use Rattle.change_text.specs.Inside.{ReadsNumber, ReadsValue};
 
 use graph_model::Val;
 
@@ -14,10 +13,18 @@ const MOST_TENS: u64 = 922_337_203_685_477_580;
 const GREATEST: u64 = 9_223_372_036_854_775_807;
 
 // The value of some digits, where it is at most 2^63 - 1.
-fn value_of(digits: &[u8]) -> Option<u64> {
+fn value_of(digits: &[u8]) -> Option<u64>
+    ensures digits { IfSome result (λ n. all_ascii_digits digits.now ≡ true) }
+    ensures value { IfSome result (λ n. digits_value 10 digits.now ≡ n) }
+    ensures limit { IfSome result (λ n. n < 2 ^ 63) }
+    ensures none { IfNone result (all_ascii_digits digits.now ≡ true → 2 ^ 63 ≤ digits_value 10 digits.now) }
+{
     let mut value: u64 = 0;
     for b in digits {
-        if !b.is_ascii_digit() || value > MOST_TENS {
+        if !b.is_ascii_digit() {
+            return None;
+        }
+        if value > MOST_TENS {
             return None;
         }
         value = value * 10 + u64::from(*b - b'0');
@@ -27,37 +34,45 @@ fn value_of(digits: &[u8]) -> Option<u64> {
 
 /// The number below 2^63 that these bytes spell.
 pub(crate) fn number_of(digits: &[u8]) -> Option<u64>
-    ensures some { IfSome result (λ n. digits.now ≡ decimal n) }
-    ensures limit { IfSome result (λ n. n < 2 ^ 63) }
-    ensures none { IfNone result ((n : ℕ) → n < 2 ^ 63 → digits.now ≢ decimal n) }
+    ensures { ReadsNumber digits.now result }
 {
-    match digits {
-        [] => None,
-        [b'0', _, ..] => None,
-        _ => value_of(digits),
+    if digits.is_empty() {
+        return None;
+    }
+    if digits[0] == b'0' {
+        return if digits.len() == 1 { Some(0) } else { None };
+    }
+    value_of(digits)
+}
+
+// The value that a minus and these bytes spell.
+fn behind_minus(digits: &[u8]) -> Option<Val>
+    ensures { ReadsValue (45 ∷ digits.now) result }
+{
+    if digits.is_empty() {
+        return Some(Val::Nil);
+    }
+    match number_of(digits) {
+        Some(0) => None,
+        Some(number) => Some(Val::Num(-(number as i64))),
+        None => None,
     }
 }
 
 /// The value that these bytes spell.
 pub(crate) fn read_value(bytes: &[u8]) -> Option<Val>
-    ensures some { IfSome result (λ v. bytes.now ≡ value_text v) }
-    ensures limit { IfSome result IsValue }
-    ensures none { IfNone result ((v : Val) → IsValue v → bytes.now ≢ value_text v) }
+    ensures { ReadsValue bytes.now result }
 {
     match bytes {
-        [b'-'] => Some(Val::Nil),
-        [b'-', digits @ ..] => below_zero(digits),
-        _ => match number_of(bytes) {
-            Some(number) => Some(Val::Num(number as i64)),
-            None => None,
-        },
-    }
-}
-
-// The number below zero whose digits these are.
-fn below_zero(digits: &[u8]) -> Option<Val> {
-    match number_of(digits) {
-        Some(number) if number > 0 => Some(Val::Num(-(number as i64))),
-        _ => None,
+        [] => None,
+        [first, rest @ ..] => {
+            if *first == b'-' {
+                return behind_minus(rest);
+            }
+            match number_of(bytes) {
+                Some(number) => Some(Val::Num(number as i64)),
+                None => None,
+            }
+        }
     }
 }

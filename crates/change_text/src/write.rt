@@ -1,11 +1,12 @@
 //! Writes tables as blocks of a change text.
 
-ghost use Rattle.std.specs.Prelude.{◌≡◌, ◌≤◌, length, IfOk, OnOk, OnErr, option_copied};
+ghost use Rattle.std.specs.Prelude.{◌≡◌, ◌≤◌, length, Some, IfOk, OnOk, OnErr, option_copied};
 ghost use Rattle.surge_outside.specs.Counts.{HasRisen};
 ghost use Rattle.surge_outside.specs.Written.{GrewByFront, appended};
 ghost use Rattle.result_tables.specs.TableText.{IsTable};
 ghost use Rattle.change_text.specs.Spelling.{block_text};
-ghost use Rattle.change_text.specs.Writing.{IsTableBefore, IsTableHead, block_of, changed_rows};
+ghost use Rattle.change_text.specs.Writing.{IsTableBefore, IsTableHead, block_of, changed_rows, is_shown};
+ghost use Rattle.change_text.specs.Inside.{change_of};
 
 use crate::kind::Kind;
 use crate::row::Row;
@@ -17,10 +18,13 @@ use surge_outside::{NoMemory, Sink, Trouble, put_all};
 use vertex_lang::Outcome;
 
 // Whether a table whose run ended so has rows.
-fn is_shown(outcome: Outcome) -> bool {
+fn is_shown(outcome: Outcome) -> bool
+    ensures { result ≡ is_shown outcome }
+{
     match outcome {
+        Outcome::Settled(_) => true,
+        Outcome::After(_) => true,
         Outcome::Unsettled => false,
-        _ => true,
     }
 }
 
@@ -30,7 +34,11 @@ fn rows_that_differ(
     graph: &Graph,
     before: &[Val],
     values: &[Val],
-) -> Result<Vec<Row>, NoMemory> {
+) -> Result<Vec<Row>, NoMemory>
+    requires before { length before.now ≡ length graph.now.ids }
+    requires values { length values.now ≡ length graph.now.ids }
+    ensures { IfOk result (λ rows. rows.items ≡ changed_rows graph.now before.now values.now) }
+{
     let mut rows = Vec::new(alloc);
     for place in 0..graph.node_count() {
         let node = graph.by_id(place);
@@ -52,7 +60,12 @@ fn change_text(
     graph: &Graph,
     before: &Table,
     table: &Table,
-) -> Result<Vec<u8>, NoMemory> {
+) -> Result<Vec<u8>, NoMemory>
+    requires head { IsTableHead head.now }
+    requires before { length before.now.values ≡ length graph.now.ids }
+    requires table { length table.now.values ≡ length graph.now.ids }
+    ensures { IfOk result (λ text. text.items ≡ block_text (change_of head.now graph.now before.now table.now)) }
+{
     let rows = rows_that_differ(alloc, graph, before.values.as_slice(), table.values.as_slice())?;
     let mut text = Vec::new(alloc);
     let frame = Frame {
@@ -62,6 +75,35 @@ fn change_text(
     };
     push_block(&mut text, frame, rows.as_slice())?;
     Ok(text)
+}
+
+// Writes a table as a block behind the table before.
+fn write_behind<O: Sink>(
+    alloc: Global,
+    head: &[u8],
+    graph: &Graph,
+    before: &Table,
+    table: &Table,
+    out: &mut O,
+) -> Result<(), Trouble>
+    requires head { IsTableHead head.now }
+    requires before { IsTable graph.now before.now }
+    requires table { IsTable graph.now table.now }
+    ensures ok { OnOk result (O.written out.new ≡ appended (O.written out.old) (block_text (block_of head.now graph.now (Some before.now) table.now))) }
+    ensures err { OnErr result (GrewByFront (O.written out.old) (O.written out.new) (block_text (block_of head.now graph.now (Some before.now) table.now))) }
+    ensures faults { O.faults out.old ≤ O.faults out.new }
+    ensures failed { result ≡ Err Trouble.Failed → HasRisen (O.faults out.old) (O.faults out.new) }
+{
+    if !is_shown(before.outcome) {
+        return write_table(alloc, head, Form::Tables, 0, graph, table, out);
+    }
+    if !is_shown(table.outcome) {
+        return write_table(alloc, head, Form::Tables, 0, graph, table, out);
+    }
+    match change_text(alloc, head, graph, before, table) {
+        Ok(text) => put_all(out, text.as_slice()),
+        Err(NoMemory) => Err(Trouble::NoMemory),
+    }
 }
 
 /// Writes a table as a block of a change text, as one piece, and then the rest of it while the sink takes less: as a change
@@ -81,14 +123,16 @@ pub fn write_change<O: Sink>(
     table: &Table,
     out: &mut O,
 ) -> Result<(), Trouble>
+    requires head { IsTableHead head.now }
+    requires before { IsTableBefore graph.now (option_copied before) }
+    requires table { IsTable graph.now table.now }
+    ensures ok { OnOk result (O.written out.new ≡ appended (O.written out.old) (block_text (block_of head.now graph.now (option_copied before.entry) table.now))) }
+    ensures err { OnErr result (GrewByFront (O.written out.old) (O.written out.new) (block_text (block_of head.now graph.now (option_copied before.entry) table.now))) }
+    ensures faults { O.faults out.old ≤ O.faults out.new }
+    ensures failed { result ≡ Err Trouble.Failed → HasRisen (O.faults out.old) (O.faults out.new) }
 {
     match before {
-        Some(before) if is_shown(before.outcome) && is_shown(table.outcome) => {
-            match change_text(alloc, head, graph, before, table) {
-                Ok(text) => put_all(out, text.as_slice()),
-                Err(NoMemory) => Err(Trouble::NoMemory),
-            }
-        }
-        _ => write_table(alloc, head, Form::Tables, 0, graph, table, out),
+        None => write_table(alloc, head, Form::Tables, 0, graph, table, out),
+        Some(before) => write_behind(alloc, head, graph, before, table, out),
     }
 }

@@ -1,0 +1,84 @@
+-- The text of a block, and the rows that differ.
+use Rattle.std.proofs.Common.{◌≡◌, ◌∙◌, ℕ, zero, suc, ◌+◌, ◌<◌, ◌≤◌, Bool, true, false, not, cond, List, [], ◌∷◌, ◌++◌, length, take, drop, map, filter, flat_map, get_or, codes, Option, Some, None, refl, sym, ap, ap₂, subst, arith, append_assoc, append-nil, decimal, take-append-drop}
+use Rattle.std.proofs.lemmas.List.{map-append, map_push}
+use Rattle.std.proofs.lemmas.List.Concat.{flat_map-append}
+use Rattle.std.proofs.lemmas.List.Elements.{filter_more}
+use Rattle.graph_model.specs.GraphData.{GraphData, id_of, nodes_by_id}
+use Rattle.graph_model.specs.declared.number.NodeNo.{NodeNo}
+use Rattle.graph_model.specs.declared.value.Val.{Val}
+use Rattle.vertex_lang.specs.declared.lone.Outcome.{Outcome}
+use Rattle.vertex_lang.specs.declared.lone.Outcome.TheVariants as outcome
+use Rattle.result_tables.specs.TableText.{line_end, node_line, node_lines, outcome_text, rows, table_text, value_line, value_text}
+use Rattle.result_tables.specs.declared.table.Table.{Table}
+use Rattle.change_text.specs.declared.kind.Kind.{Kind}
+use Rattle.change_text.specs.declared.kind.Kind.TheVariants as kind
+use Rattle.change_text.specs.declared.row.Row.{Row}
+use Rattle.change_text.specs.Blocks.{Block}
+use Rattle.change_text.specs.Spelling.{block_lines, block_text, ended, front_lines, last_line, opening_line, row_line, word}
+use Rattle.change_text.specs.Writing.{IsTableHead, block_of, changed_rows, is_changed, is_shown, kind_behind, row_of, rows_behind, table_rows}
+use Rattle.change_text.proofs.Blocks.{ended-append}
+
+-- ---- the text of a block, part by part
+
+pub value_line_is : (id : ℕ) (v : Val) → value_line id v ≡ row_line (record { id = id; value = v }) ++ line_end
+value_line_is id v = sym (append_assoc (decimal id) (44 ∷ value_text v) line_end)
+
+pub parts : (b : Block) → block_text b ≡ word b.kind ++ (b.head ++ (codes " " ++ (outcome_text b.outcome ++ (line_end ++ (ended (map row_line b.rows) ++ (codes "end" ++ line_end))))))
+parts b =
+    let rest : List ℕ = ended (map row_line b.rows ++ last_line ∷ []) in
+    let more : List ℕ = line_end ++ (ended (map row_line b.rows) ++ (codes "end" ++ line_end)) in
+    let tail : line_end ++ rest ≡ more = ap (λ (bs : List ℕ). line_end ++ bs) (ended-append (map row_line b.rows) (last_line ∷ []) ∙ ap (λ (bs : List ℕ). ended (map row_line b.rows) ++ bs) (append-nil (last_line ++ line_end))) in
+    append_assoc (opening_line b.kind b.head b.outcome) line_end rest
+    ∙ ap (λ (bs : List ℕ). opening_line b.kind b.head b.outcome ++ bs) tail
+    ∙ append_assoc (word b.kind) (b.head ++ (codes " " ++ outcome_text b.outcome)) more
+    ∙ ap (λ (bs : List ℕ). word b.kind ++ bs) (append_assoc b.head (codes " " ++ outcome_text b.outcome) more
+    ∙ ap (λ (bs : List ℕ). b.head ++ bs) (append_assoc (codes " ") (outcome_text b.outcome) more))
+
+-- ---- a full block is a table
+
+lines_of : (graph : GraphData) (values : List Val) (nodes : List NodeNo) → flat_map (node_line graph values) nodes ≡ ended (map row_line (map (row_of graph values) nodes))
+lines_of graph values [] = refl
+lines_of graph values (n ∷ ns) = ap₂ (λ (a b : List ℕ). a ++ b) (value_line_is (id_of graph n.0) (row_of graph values n).value) (lines_of graph values ns)
+
+rows_are : (graph : GraphData) (o : Outcome) (values : List Val) → rows graph o values ≡ ended (map row_line (table_rows graph o values))
+rows_are graph (outcome.Settled r) values = lines_of graph values (nodes_by_id graph.ids)
+rows_are graph (outcome.After r) values = lines_of graph values (nodes_by_id graph.ids)
+rows_are graph outcome.Unsettled values = refl
+
+full_text : (head : List ℕ) (graph : GraphData) (table : Table) → IsTableHead head
+    → table_text head graph table ≡ block_text (record { kind = kind.Full; head = drop 5 head; outcome = table.outcome; rows = table_rows graph table.outcome table.values })
+full_text head graph table is =
+    let tail : List ℕ = codes " " ++ (outcome_text table.outcome ++ (line_end ++ (rows graph table.outcome table.values ++ (codes "end" ++ line_end)))) in
+    ap (λ (bs : List ℕ). bs ++ tail) (sym (take-append-drop 5 head) ∙ ap (λ (bs : List ℕ). bs ++ drop 5 head) is)
+    ∙ append_assoc (codes "view ") (drop 5 head) tail
+    ∙ ap (λ (bs : List ℕ). codes "view " ++ (drop 5 head ++ (codes " " ++ (outcome_text table.outcome ++ (line_end ++ (bs ++ (codes "end" ++ line_end))))))) (rows_are graph table.outcome table.values)
+    ∙ sym (parts (record { kind = kind.Full; head = drop 5 head; outcome = table.outcome; rows = table_rows graph table.outcome table.values }))
+
+as_full : (k : Kind) (head : List ℕ) (graph : GraphData) (before : Option Table) (table : Table) → k ≡ kind.Full
+    → ◌≡◌ {A = Block} (record { kind = kind.Full; head = drop 5 head; outcome = table.outcome; rows = table_rows graph table.outcome table.values }) (record { kind = k; head = drop 5 head; outcome = table.outcome; rows = rows_behind k graph before table })
+as_full kind.Full head graph before table e = refl
+as_full kind.Change head graph before table e = absurd cc
+
+pub full_is : (head : List ℕ) (graph : GraphData) (before : Option Table) (table : Table) → IsTableHead head → kind_behind before table ≡ kind.Full → table_text head graph table ≡ block_text (block_of head graph before table)
+full_is head graph before table is e = full_text head graph table is ∙ ap block_text (as_full (kind_behind before table) head graph before table e)
+
+as_change : (k : Kind) (head : List ℕ) (graph : GraphData) (before table : Table) → k ≡ kind.Change
+    → ◌≡◌ {A = Block} (record { kind = kind.Change; head = drop 5 head; outcome = table.outcome; rows = changed_rows graph before.values table.values }) (record { kind = k; head = drop 5 head; outcome = table.outcome; rows = rows_behind k graph (Some before) table })
+as_change kind.Full head graph before table e = absurd cc
+as_change kind.Change head graph before table e = refl
+
+pub change_is : (head : List ℕ) (graph : GraphData) (before table : Table) → kind_behind (Some before) table ≡ kind.Change
+    → block_text (record { kind = kind.Change; head = drop 5 head; outcome = table.outcome; rows = changed_rows graph before.values table.values }) ≡ block_text (block_of head graph (Some before) table)
+change_is head graph before table e = ap block_text (as_change (kind_behind (Some before) table) head graph before table e)
+
+-- ---- the rows that differ, one node more
+
+module _ (graph : GraphData) (before values : List Val) where
+  abbrev pub rows_upto : ℕ → List Row
+  rows_upto place = map (row_of graph values) (filter (is_changed before values) (take place (nodes_by_id graph.ids)))
+
+  grown : (place : ℕ) (n : NodeNo) → place < length (nodes_by_id graph.ids) → n ≡ get_or (nodes_by_id graph.ids) place n → rows_upto (place + 1) ≡ rows_upto place ++ map (row_of graph values) (cond (is_changed before values n) (n ∷ []) [])
+  grown place n lt is =
+      ap (map (row_of graph values)) (filter_more (is_changed before values) (nodes_by_id graph.ids) place n lt)
+      ∙ map-append (row_of graph values) (filter (is_changed before values) (take place (nodes_by_id graph.ids))) (cond (is_changed before values (get_or (nodes_by_id graph.ids) place n)) (get_or (nodes_by_id graph.ids) place n ∷ []) [])
+      ∙ ap (λ (m : NodeNo). map (row_of graph values) (filter (is_changed before values) (take place (nodes_by_id graph.ids))) ++ map (row_of graph values) (cond (is_changed before values m) (m ∷ []) [])) (sym is)
