@@ -71,17 +71,16 @@ one_more (k ∷ xs) (l ∷ ys) x y p q many e =
 -- ---- the lines of a block
 
 -- behind the rows of one block come the same lines as behind those rows of another: its last line, or one more row
-pub data Behind (rows others : List Row) (line : List ℕ) : Type 0 where
-  ends : others ≡ rows → line ≡ last_line → Behind rows others line
-  goes_on : (row : Row) (rest : List Row) → others ≡ rows ++ row ∷ rest → line ≡ row_line row → Behind rows others line
+abbrev pub Behind : List Row → List Row → List ℕ → Type 0
+Behind rows others line = ((others ≡ rows) × (line ≡ last_line)) ⊎ ((p : Row × List Row) × (others ≡ rows ++ p.0 ∷ p.1) × (line ≡ row_line p.0))
 
 behind_cons : (r s : Row) (rows others : List Row) (line : List ℕ) → s ≡ r → Behind rows others line → Behind (r ∷ rows) (s ∷ others) line
-behind_cons r s rows others line e (Behind.ends f g) = Behind.ends (same_cons e f) g
-behind_cons r s rows others line e (Behind.goes_on row rest f g) = Behind.goes_on row rest (same_cons e f) g
+behind_cons r s rows others line e (inl h) = inl (same_cons e h.0, h.1)
+behind_cons r s rows others line e (inr h) = inr (h.0, same_cons e h.1, h.2)
 
 pub behind_rows : (rows others : List Row) (line : List ℕ) (x y : List (List ℕ)) → All IsRow rows → All IsRow others → map row_line rows ++ line ∷ x ≡ map row_line others ++ last_line ∷ y → Behind rows others line
-behind_rows [] [] line x y p q e = Behind.ends refl (same_head e)
-behind_rows [] (s ∷ others) line x y p q e = Behind.goes_on s others refl (same_head e)
+behind_rows [] [] line x y p q e = inl (refl, same_head e)
+behind_rows [] (s ∷ others) line x y p q e = inr ((s, others), refl, same_head e)
 behind_rows (r ∷ rows) [] line x y p q e = absurd (row_not_last r (same_head e))
 behind_rows (r ∷ rows) (s ∷ others) line x y p q e =
     let same : s ≡ r = sym (same_row_line r s (All-head IsRow r rows p) (All-head IsRow s others q) (same_head e)) in
@@ -102,11 +101,15 @@ same_rows (r ∷ rows) (s ∷ others) x y p q e =
     let k = same_rows rows others x y (All-tail IsRow r rows p) (All-tail IsRow s others q) (same_tail e) in
     (same_cons (same_row_line r s (All-head IsRow r rows p) (All-head IsRow s others q) (same_head e)) k.0, k.1)
 
-pair : {A B : Type 0} {a c : A} {b d : B} → a ≡ c → b ≡ d → ◌≡◌ {A = A × B} (a, b) (c, d)
-pair p q = ap₂ (λ x y. (x, y)) p q
+abbrev block_with : Kind → List ℕ → Outcome → List Row → Block
+block_with k head o rows = record { kind = k; head = head; outcome = o; rows = rows }
 
-same_block : (b c : Block) → b.kind ≡ c.kind → b.head ≡ c.head → b.outcome ≡ c.outcome → b.rows ≡ c.rows → b ≡ c
-same_block b c p q r s = ap₂ (λ (f : (Kind × List ℕ)) (g : (Outcome × List Row)). record { kind = f.0; head = f.1; outcome = g.0; rows = g.1 }) (pair p q) (pair r s)
+pub same_block : (b c : Block) → b.kind ≡ c.kind → b.head ≡ c.head → b.outcome ≡ c.outcome → b.rows ≡ c.rows → b ≡ c
+same_block b c p q r s =
+    ap (λ (k : Kind). block_with k b.head b.outcome b.rows) p
+    ∙ ap (λ (head : List ℕ). block_with c.kind head b.outcome b.rows) q
+    ∙ ap (λ (o : Outcome). block_with c.kind c.head o b.rows) r
+    ∙ ap (λ (rows : List Row). block_with c.kind c.head c.outcome rows) s
 
 lines_split : (b : Block) (x : List (List ℕ)) → block_lines b ++ x ≡ opening_line b.kind b.head b.outcome ∷ (map row_line b.rows ++ last_line ∷ x)
 lines_split b x = append_assoc (front_lines b) (last_line ∷ []) x

@@ -23,8 +23,8 @@ begins_from lines left blocks text rest are is e = record {
   text_is = e ∙ ap (λ (ls : List (List ℕ)). ended ls ++ rest) (sym (ap (λ (ls : List (List ℕ)). take (length lines) ls) is ∙ take_at lines left (length lines) refl));
 }
 
-open_begins : (open : Option Opened) (blocks : List Block) (rows table : List Row) (place : ℕ) (text rest : List ℕ) → AreBlocks blocks → IsPart open (last_table None blocks) rows table place
-    → text ≡ ended (changes_lines blocks ++ open_lines open rows) ++ rest → Begins (length (changes_lines blocks ++ open_lines open rows)) text
+open_begins : (begun : Option Opened) (blocks : List Block) (rows table : List Row) (place : ℕ) (text rest : List ℕ) → AreBlocks blocks → IsPart begun (last_table None blocks) rows table place
+    → text ≡ ended (changes_lines blocks ++ open_lines begun rows) ++ rest → Begins (length (changes_lines blocks ++ open_lines begun rows)) text
 open_begins None blocks rows table place text rest are part e = begins_from (changes_lines blocks ++ []) [] blocks text rest are (sym (append-nil (changes_lines blocks ++ []) ∙ append-nil (changes_lines blocks))) e
 open_begins (Some o) blocks rows table place text rest are part e =
     begins_from (changes_lines blocks ++ front_lines (opened_block o rows)) (last_line ∷ []) (blocks ++ opened_block o rows ∷ []) text rest
@@ -32,7 +32,7 @@ open_begins (Some o) blocks rows table place text rest are part e =
     (lines_push blocks (opened_block o rows) ∙ sym (append_assoc (changes_lines blocks) (front_lines (opened_block o rows)) (last_line ∷ [])))
     e
 
-open_are_lines : (open : Option Opened) (blocks : List Block) (rows table : List Row) (place : ℕ) → AreBlocks blocks → IsPart open (last_table None blocks) rows table place → All IsLine (changes_lines blocks ++ open_lines open rows)
+open_are_lines : (begun : Option Opened) (blocks : List Block) (rows table : List Row) (place : ℕ) → AreBlocks blocks → IsPart begun (last_table None blocks) rows table place → All IsLine (changes_lines blocks ++ open_lines begun rows)
 open_are_lines None blocks rows table place are part = All-append IsLine (changes_lines blocks) [] (are_lines None blocks are) (All-nil IsLine)
 open_are_lines (Some o) blocks rows table place are part = All-append IsLine (changes_lines blocks) (front_lines (opened_block o rows)) (are_lines None blocks are) (fronts_are_lines (opened_block o rows) part.block)
 
@@ -77,8 +77,8 @@ not_whole : (before : Option Block) (b : Block) (more : List Block) → IsBlock 
 not_whole before b [] is are e = cc
 not_whole before b (c ∷ cs) is are e = no_end b.rows c.rows (changes_lines cs) is.rows are.0.rows (same_tail e ∙ append_assoc (map row_line c.rows) (last_line ∷ []) (changes_lines cs))
 
-open_whole : (open : Option Opened) (o : Opened) (blocks others : List Block) (rows table : List Row) (place : ℕ) → open ≡ Some o → AreBlocks blocks → IsPart open (last_table None blocks) rows table place → AreBlocks others
-    → changes_lines others ≡ changes_lines blocks ++ open_lines open rows → ⊥
+open_whole : (begun : Option Opened) (o : Opened) (blocks others : List Block) (rows table : List Row) (place : ℕ) → begun ≡ Some o → AreBlocks blocks → IsPart begun (last_table None blocks) rows table place → AreBlocks others
+    → changes_lines others ≡ changes_lines blocks ++ open_lines begun rows → ⊥
 open_whole None o blocks others rows table place some are part q e = absurd cc
 open_whole (Some p) o blocks others rows table place some are part q e =
     let goes = blocks_front None blocks others (front_lines (opened_block p rows)) are q (sym e) in
@@ -88,10 +88,10 @@ open_whole (Some p) o blocks others rows table place some are part q e =
 
 module _ (r : Reader) (text rest : List ℕ) (is : IsReader r) (e : text ≡ ended (lines_so_far r) ++ rest) where
   so_far_begins : Begins (length (lines_so_far r)) text
-  so_far_begins = open_begins r.open r.flat.blocks r.flat.rows r.table.items r.place text rest is.are is.part e
+  so_far_begins = open_begins r.begun r.flat.blocks r.flat.rows r.table.items r.place text rest is.are is.part e
 
   so_far_lines : All IsLine (lines_so_far r)
-  so_far_lines = open_are_lines r.open r.flat.blocks r.flat.rows r.table.items r.place is.are is.part
+  so_far_lines = open_are_lines r.begun r.flat.blocks r.flat.rows r.table.items r.place is.are is.part
 
   -- no byte ends a line of the rest
   pub unfinished : 0 < length rest → IsLine rest → IsBadLine text (length (lines_so_far r) + 1)
@@ -108,14 +108,14 @@ module _ (r : Reader) (text rest : List ℕ) (is : IsReader r) (e : text ≡ end
       (λ blocks are none same. omega (arith, ap (λ (bytes : List ℕ). length bytes) (sym cut.split ∙ none), length-append line (10 ∷ behind)))
 
   -- the text ends in a block
-  pub missing : (o : Opened) → r.open ≡ Some o → rest ≡ [] → IsBadLine text (length (lines_so_far r) + 1)
+  pub missing : (o : Opened) → r.begun ≡ Some o → rest ≡ [] → IsBadLine text (length (lines_so_far r) + 1)
   missing o some none =
       is_bad (lines_so_far r) text rest so_far_begins so_far_lines e
       (λ l behind f is_line. absurd (omega (arith, ap (λ (bytes : List ℕ). length bytes) (sym f ∙ none), length-append l (10 ∷ behind))))
-      (λ blocks are empty same. open_whole r.open o r.flat.blocks blocks r.flat.rows r.table.items r.place some is.are is.part are same)
+      (λ blocks are empty same. open_whole r.begun o r.flat.blocks blocks r.flat.rows r.table.items r.place some is.are is.part are same)
 
   -- the text ends behind a block
-  pub whole_text : r.open ≡ None → rest ≡ [] → IsChanges text r.flat.blocks
+  pub whole_text : r.begun ≡ None → rest ≡ [] → IsChanges text r.flat.blocks
   whole_text none empty = record {
     are = is.are;
     text_is = e ∙ ap (λ (bytes : List ℕ). ended (lines_so_far r) ++ bytes) empty ∙ append-nil (ended (lines_so_far r))

@@ -4,7 +4,7 @@ pub mod Rows
 pub mod Lines
 pub mod Blocks
 pub mod Judging
-pub mod Flat
+pub mod Holding
 pub mod Taking
 pub mod Replaying
 pub mod Writing

@@ -1,5 +1,5 @@
 -- Whole numbers as they are spelled.
-use Rattle.std.proofs.Common.{◌≡◌, ◌≢◌, ◌∙◌, ℕ, zero, suc, ◌+◌, ◌-◌, ◌*◌, ◌<◌, ◌≤◌, ◌^◌, ◌&&◌, Bool, true, false, ℤ, pos, negsuc, List, [], ◌∷◌, ◌++◌, length, drop, get_or, Option, Some, None, refl, sym, ap, subst, arith, drop-cons, decimal}
+use Rattle.std.proofs.Common.{◌≡◌, ◌≢◌, ◌∙◌, ℕ, zero, suc, ◌+◌, ◌-◌, ◌*◌, ◌<◌, ◌≤◌, ◌^◌, ◌&&◌, Bool, true, false, ℤ, pos, negsuc, List, [], ◌∷◌, ◌++◌, length, drop, get_or, Option, Some, None, refl, sym, ap, subst, arith, add-one, drop-cons, decimal}
 use Rattle.std.specs.Fmt.{signed_decimal}
 use Rattle.std.specs.Char.{digit_value, is_ascii_digit}
 use Rattle.std.specs.Int.{IsInRange}
@@ -45,6 +45,17 @@ too_large v i ds lt over same =
     let cut : digits_value_after 10 (v * 10 + digit_value (get_or ds i 0)) (drop (suc i) ds) ≡ digits_value_after 10 0 ds = sym (ap (digits_value_after 10 v) (drop-cons ds i 0 lt)) ∙ same in
     let k = grows (v * 10 + digit_value (get_or ds i 0)) (drop (suc i) ds) in
     omega (arith, cut, k)
+
+-- one more digit
+pub all_step : (i : ℕ) (ds : List ℕ) → i < length ds → is_ascii_digit (get_or ds i 0) ≡ true → all_ascii_digits (drop i ds) ≡ all_ascii_digits ds → all_ascii_digits (drop (i + 1) ds) ≡ all_ascii_digits ds
+all_step i ds lt yes same =
+    ap (λ (b : Bool). b && all_ascii_digits (drop (i + 1) ds)) (sym yes) ∙ ap (λ (n : ℕ). is_ascii_digit (get_or ds i 0) && all_ascii_digits (drop n ds)) (add-one i) ∙ sym (ap all_ascii_digits (drop-cons ds i 0 lt)) ∙ same
+
+pub value_step : (v i : ℕ) (ds : List ℕ) → i < length ds → is_ascii_digit (get_or ds i 0) ≡ true → digits_value_after 10 v (drop i ds) ≡ digits_value_after 10 0 ds
+    → digits_value_after 10 (v * 10 + (get_or ds i 0 - 48)) (drop (i + 1) ds) ≡ digits_value_after 10 0 ds
+value_step v i ds lt yes same =
+    ap (λ (d : ℕ). digits_value_after 10 (v * 10 + d) (drop (i + 1) ds)) (sym (digit_is (get_or ds i 0) yes))
+    ∙ ap (λ (n : ℕ). digits_value_after 10 (v * 10 + digit_value (get_or ds i 0)) (drop n ds)) (add-one i) ∙ sym (ap (digits_value_after 10 v) (drop-cons ds i 0 lt)) ∙ same
 
 -- ---- the number that digits spell
 

@@ -1,7 +1,6 @@
 -- Lists that are cut at the first or at the last of one byte.
-use Rattle.std.proofs.Common.{◌≡◌, ◌≢◌, ◌∙◌, ℕ, zero, suc, ◌+◌, ◌<◌, ◌≤◌, Bool, true, false, List, [], ◌∷◌, ◌++◌, length, take, drop, get_or, All, refl, sym, ap, subst, arith, drop-cons, take-append-drop, length-append, eqb, ◌||◌}
+use Rattle.std.proofs.Common.{◌≡◌, ◌≢◌, ◌∙◌, ℕ, zero, suc, ◌+◌, ◌<◌, ◌≤◌, Bool, true, false, List, [], ◌∷◌, ◌++◌, length, take, drop, get_or, All, refl, sym, ap, subst, arith, drop-cons, take-append-drop, length-append, eqb, eq-eqb, true≢false, ◌||◌}
 use Rattle.std.specs.List.{list_any}
-use Rattle.std.proofs.lemmas.Bool.Decides.{nat_tests}
 use Rattle.std.proofs.lemmas.List.Elements.{All-append, All-cons, All-from_get_or, All-head, All-nil, All-tail}
 use Rattle.change_text.specs.Inside.{Lacks, IsCutAt, IsCutLast}
 
@@ -47,7 +46,7 @@ has s xs ys zs h e = lacks_head s s ys (lacks_back s xs (s ∷ ys) (lacks_same s
 
 -- one of the bytes is told by a test
 one_lacks : (s b : ℕ) (bs : List ℕ) → (eqb b s ≡ false → Lacks s bs → Lacks s (b ∷ bs))
-one_lacks s b bs e h = let ne : b ≢ s = grind (arith, nat_tests) in lacks_cons s b bs ne h
+one_lacks s b bs e h = lacks_cons s b bs (λ f. true≢false (sym (eq-eqb b s f) ∙ e)) h
 
 no_or : (x y : Bool) → (x || y) ≡ false → (x ≡ false) × (y ≡ false)
 no_or true y e = absurd cc

@@ -1,5 +1,5 @@
 -- One more line: what it leaves where it is taken, and why no change text has it where it is not.
-use Rattle.std.proofs.Common.{◌≡◌, ◌≢◌, ◌∙◌, ℕ, zero, suc, ◌+◌, ◌<◌, ◌≤◌, Bool, true, false, List, [], ◌∷◌, ◌++◌, length, take, map, Option, Some, None, All, refl, sym, ap, subst, arith, append_assoc, append-nil, true≢false}
+use Rattle.std.proofs.Common.{◌≡◌, ◌≢◌, ◌∙◌, ℕ, zero, suc, ◌+◌, ◌<◌, ◌≤◌, Bool, true, false, List, [], ◌∷◌, ◌++◌, length, take, map, Option, Some, None, All, refl, sym, ap, subst, arith, append_assoc, append-nil, true≢false, inl, inr}
 use Rattle.std.proofs.lemmas.List.{map_push}
 use Rattle.std.proofs.lemmas.List.Elements.{All-head, All-nil, All-push, All-weaker}
 use Rattle.vertex_lang.specs.declared.lone.Outcome.{Outcome}
@@ -99,11 +99,11 @@ opened_lines blocks o line rows none opens =
 another_row : (before : Option Block) (b c : Block) (line : List ℕ) (x : List (List ℕ)) → IsBlock b → IsBlock c → Follows before c → c.kind ≡ b.kind → c.head ≡ b.head → c.outcome ≡ b.outcome → line ≢ last_line → Behind b.rows c.rows line
     → ((row : Row) (rest : List Row) → line ≡ row_line row → IsBlock (record { kind = b.kind; head = b.head; outcome = b.outcome; rows = b.rows ++ row ∷ rest })
     → Follows before (record { kind = b.kind; head = b.head; outcome = b.outcome; rows = b.rows ++ row ∷ rest }) → ⊥) → ⊥
-another_row before b c line x p q follows k h o ne (Behind.ends f g) no = ne g
-another_row before b c line x p q follows k h o ne (Behind.goes_on row rest f g) no =
-    let longer : Block = record { kind = b.kind; head = b.head; outcome = b.outcome; rows = b.rows ++ row ∷ rest } in
-    let same : c ≡ longer = same_block c longer k h o f in
-    no row rest g (subst (λ (d : Block). IsBlock d) same q) (subst (λ (d : Block). Follows before d) same follows)
+another_row before b c line x p q follows k head o ne (inl h) no = ne h.1
+another_row before b c line x p q follows k head o ne (inr h) no =
+    let longer : Block = record { kind = b.kind; head = b.head; outcome = b.outcome; rows = b.rows ++ h.0.0 ∷ h.0.1 } in
+    let same : c ≡ longer = same_block c longer k head o h.1 in
+    no h.0.0 h.0.1 h.2 (subst (λ (d : Block). IsBlock d) same q) (subst (λ (d : Block). Follows before d) same follows)
 
 another_line : (before : Option Block) (b : Block) (line : List ℕ) (x : List (List ℕ)) (more : List Block) → IsBlock b → AreFrom before more → front_lines b ++ line ∷ x ≡ changes_lines more → line ≢ last_line
     → ((row : Row) (rest : List Row) → line ≡ row_line row → IsBlock (record { kind = b.kind; head = b.head; outcome = b.outcome; rows = b.rows ++ row ∷ rest })

@@ -1,6 +1,6 @@
 -- The text of a block, and the rows that differ.
 use Rattle.std.proofs.Common.{◌≡◌, ◌∙◌, ℕ, zero, suc, ◌+◌, ◌<◌, ◌≤◌, Bool, true, false, not, cond, List, [], ◌∷◌, ◌++◌, length, take, drop, map, filter, flat_map, get_or, codes, Option, Some, None, refl, sym, ap, ap₂, subst, arith, append_assoc, append-nil, decimal, take-append-drop}
-use Rattle.std.proofs.lemmas.List.{map-append, map_push}
+use Rattle.std.proofs.lemmas.List.{drop_more, map-append, take-take}
 use Rattle.std.proofs.lemmas.List.Concat.{flat_map-append}
 use Rattle.std.proofs.lemmas.List.Elements.{filter_more}
 use Rattle.graph_model.specs.GraphData.{GraphData, id_of, nodes_by_id}
@@ -82,3 +82,27 @@ module _ (graph : GraphData) (before values : List Val) where
       ap (map (row_of graph values)) (filter_more (is_changed before values) (nodes_by_id graph.ids) place n lt)
       ∙ map-append (row_of graph values) (filter (is_changed before values) (take place (nodes_by_id graph.ids))) (cond (is_changed before values (get_or (nodes_by_id graph.ids) place n)) (get_or (nodes_by_id graph.ids) place n ∷ []) [])
       ∙ ap (λ (m : NodeNo). map (row_of graph values) (filter (is_changed before values) (take place (nodes_by_id graph.ids))) ++ map (row_of graph values) (cond (is_changed before values m) (m ∷ []) [])) (sym is)
+
+-- ---- the lines of rows
+
+row_text_is : (row : Row) (rest : List ℕ) → value_line row.id row.value ++ rest ≡ (row_line row ++ line_end) ++ rest
+row_text_is row rest = ap (λ (bs : List ℕ). bs ++ rest) (value_line_is row.id row.value)
+
+pub one_before : (rows : List Row) (i place : ℕ) (row : Row) → place ≡ i + 1 → i < length rows → row ≡ get_or rows i row → value_line row.id row.value ++ ended (map row_line (drop place rows)) ≡ ended (map row_line (drop i rows))
+one_before rows i place row next lt is =
+    row_text_is row (ended (map row_line (drop place rows)))
+    ∙ ap (λ (n : ℕ). (row_line row ++ line_end) ++ ended (map row_line (drop n rows))) next
+    ∙ ap (λ (r : Row). (row_line r ++ line_end) ++ ended (map row_line (drop (i + 1) rows))) is
+    ∙ sym (ap (λ (rs : List Row). ended (map row_line rs)) (drop_more rows i row lt))
+
+pub more_lines : (rows : List Row) (done upto : ℕ) (first before after : List ℕ) → done ≤ upto → before ≡ first ++ ended (map row_line (take done rows)) → after ≡ before ++ ended (map row_line (drop done (take upto rows)))
+    → after ≡ first ++ ended (map row_line (take upto rows))
+more_lines rows done upto first before after le so_far more =
+    let front : List Row = take done rows in
+    let part : List Row = drop done (take upto rows) in
+    let cut : take upto rows ≡ front ++ part = sym (ap (λ (rs : List Row). rs ++ part) (sym (take-take done upto rows le)) ∙ take-append-drop done (take upto rows)) in
+    more ∙ ap (λ (bs : List ℕ). bs ++ ended (map row_line part)) so_far
+    ∙ append_assoc first (ended (map row_line front)) (ended (map row_line part))
+    ∙ ap (λ (bs : List ℕ). first ++ bs) (sym (ended-append (map row_line front) (map row_line part)))
+    ∙ ap (λ (ls : List (List ℕ)). first ++ ended ls) (sym (map-append row_line front part))
+    ∙ ap (λ (rs : List Row). first ++ ended (map row_line rs)) (sym cut)

@@ -12,8 +12,6 @@ use Rattle.graph_model.specs.GraphData.{GraphData}
 use Rattle.result_tables.specs.declared.table.Table.{Table}
 use Rattle.change_text.specs.declared.fault.ReplayStop.{ReplayStop}
 use Rattle.change_text.specs.declared.fault.ReplayStop.TheVariants as stop
-use Rattle.change_text.specs.declared.flat.Flat.TheInside.{Inside}
-use Rattle.change_text.specs.declared.flat.End.{End}
 use Rattle.change_text.specs.declared.kind.Kind.{Kind}
 use Rattle.change_text.specs.declared.kind.Kind.TheVariants as kind
 use Rattle.change_text.specs.declared.opening.Opening.{Opening}
@@ -94,35 +92,6 @@ abbrev pub OpensAs : List ℕ → Option Opening → Type 0
 OpensAs line None = (kind : Kind) (head : List ℕ) (outcome : Outcome) → Opens kind head outcome line → ⊥
 OpensAs line (Some o) = Opens o.kind o.head.now o.outcome line
 
--- ---- how blocks lie in memory
-
--- blocks, and rows that wait for their block's end
-pub record FlatData : Type 0 where
-  pub blocks : List Block
-  pub rows : List Row
-
--- each block has the next bytes of the heads and the next rows
-abbrev pub blocks_of : List End → List ℕ → List Row → List Block
-blocks_of [] heads rows = []
-blocks_of (e ∷ es) heads rows = record { kind = e.kind; head = take e.head heads; outcome = e.outcome; rows = take e.rows rows } ∷ blocks_of es (drop e.head heads) (drop e.rows rows)
-
--- the rows behind those of the blocks
-abbrev pub rows_left : List End → List Row → List Row
-rows_left [] rows = rows
-rows_left (e ∷ es) rows = rows_left es (drop e.rows rows)
-
--- so many bytes and rows are there, and no bytes are left
-abbrev pub AreEnds : List End → List ℕ → List Row → Type 0
-AreEnds [] heads rows = heads ≡ []
-AreEnds (e ∷ es) heads rows = (e.head ≤ length heads) × (e.rows ≤ length rows) × AreEnds es (drop e.head heads) (drop e.rows rows)
-
-abbrev pub flat_data : Inside → FlatData
-flat_data f = record { blocks = blocks_of f.ends.items f.heads.items f.rows.items; rows = rows_left f.ends.items f.rows.items }
-
-pub record IsFlat (f : Inside) : Type 0 where
-  pub are : AreEnds f.ends.items f.heads.items f.rows.items
-  pub waiting : length (rows_left f.ends.items f.rows.items) ≡ f.waiting
-
 -- ---- rows by their ids
 
 -- the first row whose id isn't below this one stands between two places
@@ -165,7 +134,7 @@ open_lines (Some o) rows = front_lines (opened_block o rows)
 
 -- the lines of the blocks, and those of the open one
 abbrev pub lines_so_far : Reader → List (List ℕ)
-lines_so_far r = changes_lines r.flat.blocks ++ open_lines r.open r.flat.rows
+lines_so_far r = changes_lines r.flat.blocks ++ open_lines r.begun r.flat.rows
 
 -- the table that is kept while a block is open: behind a change, with the rows so far; those before a place are passed
 abbrev pub KeepsTable : Kind → Option Block → List Row → List Row → ℕ → Type 0
@@ -192,7 +161,7 @@ pub record IsReader (r : Reader) : Type 0 where
   pub are : AreBlocks r.flat.blocks
   pub last : r.last ≡ last_outcome (last_table None r.flat.blocks)
   pub low : r.low ≡ next_id r.flat.rows
-  pub part : IsPart r.open (last_table None r.flat.blocks) r.flat.rows r.table.items r.place
+  pub part : IsPart r.begun (last_table None r.flat.blocks) r.flat.rows r.table.items r.place
 
 -- no change text has the line behind these
 abbrev pub Refused : List (List ℕ) → List ℕ → Type 0

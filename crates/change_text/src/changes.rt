@@ -3,7 +3,7 @@
 ghost use Rattle.std.specs.Prelude.{◌≡◌, ◌≤◌, ◌^◌, length, IfOk, IfErr};
 ghost use Rattle.change_text.specs.Blocks.{AreBlocks};
 ghost use Rattle.change_text.specs.Reading.{IsChanges, IsError};
-ghost use Rattle.change_text.specs.Inside.{AreEnds, blocks_of};
+ghost use Rattle.change_text.specs.Memory.{AreEnds, blocks_of};
 
 use crate::fault::{ReplayError, ReplayFault};
 use crate::flat::{Flat, Parts};
@@ -63,7 +63,7 @@ pub fn read_changes(alloc: Global, text: &[u8]) -> Result<ChangeText, ReplayErro
     let mut reader = Reader::new(alloc);
     let mut rest = text;
     let mut number = 1;
-    while !rest.is_empty() {
+    'lines: while !rest.is_empty() {
         let Some((line, behind)) = cut_first(rest, b'\n') else {
             return Err(bad(number));
         };
@@ -73,7 +73,7 @@ pub fn read_changes(alloc: Global, text: &[u8]) -> Result<ChangeText, ReplayErro
         rest = behind;
         number += 1;
     }
-    if reader.open.is_some() {
+    if reader.begun.is_some() {
         return Err(bad(number));
     }
     Ok(ChangeText { flat: reader.flat })

@@ -1,8 +1,7 @@
 //! How blocks lie in memory.
 
 ghost use Rattle.std.specs.Prelude.{◌≡◌, [], ◌∷◌, ◌++◌, OnOk};
-ghost use Rattle.change_text.specs.Blocks.{Block};
-ghost use Rattle.change_text.specs.Inside.{AreEnds, blocks_of};
+ghost use Rattle.change_text.specs.Memory.{AreEnds, blocks_of};
 
 use crate::kind::Kind;
 use crate::row::Row;
@@ -39,11 +38,11 @@ pub(crate) struct Parts<'a> {
 }
 
 impl Model for Flat {
-    ghost use Rattle.change_text.specs.Inside.{FlatData};
+    ghost use Rattle.change_text.specs.Memory.{FlatData};
 
     ghost Value = { FlatData };
 
-    ghost use Rattle.change_text.specs.Inside.{flat_data, IsFlat};
+    ghost use Rattle.change_text.specs.MemoryInside.{flat_data, IsFlat};
 
     ghost view = { flat_data };
 

@@ -22,6 +22,23 @@ fn lay_digits(room: &mut [u8], end: usize, number: u64) -> usize
     write_digits(number, room, end)
 }
 
+// The same, with `-` before the digits where the number is below zero.
+fn lay_signed(room: &mut [u8], end: usize, number: i64) -> usize
+    requires long { 21 ≤ end }
+    requires in_room { end ≤ length room.old }
+    ensures size { length room.new ≡ length room.old }
+    ensures within { result ≤ end }
+    ensures far { end ≤ result + 21 }
+    ensures digits { drop result room.new ≡ signed_decimal number ++ drop end room.old }
+{
+    let start = lay_digits(room, end, number.unsigned_abs());
+    if number >= 0 {
+        return start;
+    }
+    room[start - 1] = b'-';
+    start - 1
+}
+
 // Lays a value out before a place, and tells where it begins.
 fn lay_value(room: &mut [u8], end: usize, value: Val) -> usize
     requires long { 21 ≤ end }
@@ -36,14 +53,7 @@ fn lay_value(room: &mut [u8], end: usize, value: Val) -> usize
             room[end - 1] = b'-';
             end - 1
         }
-        Val::Num(number) => {
-            let start = lay_digits(room, end, number.unsigned_abs());
-            if number >= 0 {
-                return start;
-            }
-            room[start - 1] = b'-';
-            start - 1
-        }
+        Val::Num(number) => lay_signed(room, end, number),
     }
 }
 

@@ -22,15 +22,15 @@ mod number;
 mod opening;
 mod place;
 mod reader;
-mod replay;
 mod row;
+mod tables;
 mod text;
 mod write;
 
 pub use changes::{ChangeText, read_changes};
 pub use fault::{ReplayError, ReplayFault, ReplayStop};
 pub use laws::one_reading;
-pub use replay::replay;
+pub use tables::replay;
 pub use write::write_change;
 
 #[cfg(test)]

@@ -22,7 +22,7 @@ fn gallop(table: &[Row], from: usize, id: u64) -> Range
 {
     let mut low = from;
     let mut step = 1;
-    while step <= table.len() - low {
+    'narrow: while step <= table.len() - low {
         let place = low + (step - 1);
         if table[place].id >= id {
             return Range { low, high: place };
@@ -44,7 +44,7 @@ fn halve(table: &[Row], id: u64, range: Range) -> usize
 {
     let mut low = range.low;
     let mut high = range.high;
-    while low < high {
+    'halves: while low < high {
         let middle = low + (high - low) / 2;
         if table[middle].id < id {
             low = middle + 1;

@@ -30,7 +30,7 @@ pub(crate) struct Opened {
 pub(crate) struct Reader {
     pub(crate) alloc: Global,
     pub(crate) flat: Flat,
-    pub(crate) open: Option<Opened>,
+    pub(crate) begun: Option<Opened>,
     pub(crate) last: Option<Outcome>,
     pub(crate) table: Vec<Row>,
     pub(crate) low: u64,
@@ -92,7 +92,7 @@ impl Reader {
         Reader {
             alloc,
             flat: Flat::new(alloc),
-            open: None,
+            begun: None,
             last: None,
             table: Vec::new(alloc),
             low: 0,
@@ -103,7 +103,7 @@ impl Reader {
     // Takes the first line of a block.
     fn open_block(&mut self, line: &[u8]) -> Result<bool, NoMemory>
         requires reader { IsReader self.old }
-        requires shut { self.old.open ≡ None }
+        requires shut { self.old.begun ≡ None }
         requires line { IsLine line.now }
         ensures { IfOk result (Takes self.old line.now self.new) }
     {
@@ -114,7 +114,7 @@ impl Reader {
             return Ok(false);
         }
         let head = List::from_vec(Vec::from_slice(self.alloc, opening.head)?);
-        self.open = Some(Opened {
+        self.begun = Some(Opened {
             kind: opening.kind,
             outcome: opening.outcome,
             head,
@@ -125,7 +125,7 @@ impl Reader {
     // Takes a line of the open block that isn't its last.
     fn take_row(&mut self, kind: Kind, outcome: Outcome, line: &[u8]) -> Result<bool, NoMemory>
         requires reader { IsReader self.old }
-        requires open { IsOpenAs self.old.open kind outcome }
+        requires begun { IsOpenAs self.old.begun kind outcome }
         requires line { line.now ≢ last_line }
         ensures { IfOk result (Takes self.old line.now self.new) }
     {
@@ -149,9 +149,9 @@ impl Reader {
 
     // Takes the last line of the open block.
     fn close_block(&mut self, opened: Opened) -> Result<(), NoMemory>
-        requires reader { IsReader (record self.old { open = Some opened }) }
-        requires shut { self.old.open ≡ None }
-        ensures { OnOk result (Takes (record self.old { open = Some opened }) last_line self.new true) }
+        requires reader { IsReader (record self.old { begun = Some opened }) }
+        requires shut { self.old.begun ≡ None }
+        ensures { OnOk result (Takes (record self.old { begun = Some opened }) last_line self.new true) }
     {
         match opened.kind {
             Kind::Full => {
@@ -174,7 +174,7 @@ impl Reader {
         requires line { IsLine line.now }
         ensures { IfOk result (Takes self.old line.now self.new) }
     {
-        match self.open.take() {
+        match self.begun.take() {
             None => self.open_block(line),
             Some(opened) => {
                 if line == b"end".as_slice() {
@@ -183,7 +183,7 @@ impl Reader {
                 }
                 let kind = opened.kind;
                 let outcome = opened.outcome;
-                self.open = Some(opened);
+                self.begun = Some(opened);
                 self.take_row(kind, outcome, line)
             }
         }

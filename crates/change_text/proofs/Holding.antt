@@ -4,7 +4,7 @@ use Rattle.std.proofs.lemmas.List.{drop-append-le, drop-drop, drop_all, drop_mor
 use Rattle.change_text.specs.declared.flat.End.{End}
 use Rattle.change_text.specs.declared.row.Row.{Row}
 use Rattle.change_text.specs.Blocks.{Block}
-use Rattle.change_text.specs.Inside.{AreEnds, blocks_of, rows_left}
+use Rattle.change_text.specs.Memory.{AreEnds, blocks_of, rows_left}
 use Rattle.change_text.proofs.Split.{same_cons}
 
 abbrev block_of : End → List ℕ → List Row → Block
