@@ -111,7 +111,7 @@ same_block b c p q r s =
     ∙ ap (λ (o : Outcome). block_with c.kind c.head o b.rows) r
     ∙ ap (λ (rows : List Row). block_with c.kind c.head c.outcome rows) s
 
-lines_split : (b : Block) (x : List (List ℕ)) → block_lines b ++ x ≡ opening_line b.kind b.head b.outcome ∷ (map row_line b.rows ++ last_line ∷ x)
+pub lines_split : (b : Block) (x : List (List ℕ)) → block_lines b ++ x ≡ opening_line b.kind b.head b.outcome ∷ (map row_line b.rows ++ last_line ∷ x)
 lines_split b x = append_assoc (front_lines b) (last_line ∷ []) x
 
 pub block_front : (b c : Block) (x y : List (List ℕ)) → IsBlock b → IsBlock c → block_lines b ++ x ≡ block_lines c ++ y → (b ≡ c) × (x ≡ y)
@@ -172,7 +172,7 @@ last_push before (c ∷ bs) b = last_push (Some (table_of before c)) bs b
 pub lines_push : (bs : List Block) (b : Block) → changes_lines (bs ++ b ∷ []) ≡ changes_lines bs ++ block_lines b
 lines_push bs b = flat_map-append block_lines bs (b ∷ []) ∙ ap (λ (ls : List (List ℕ)). changes_lines bs ++ ls) (append-nil (block_lines b))
 
-rises_as : (k : Kind) (before : Option Block) (rows : List Row) → RisesIn before → IsRising rows → IsRising (rows_after k before rows)
+pub rises_as : (k : Kind) (before : Option Block) (rows : List Row) → RisesIn before → IsRising rows → IsRising (rows_after k before rows)
 rises_as kind.Full before rows up own = own
 rises_as kind.Change None rows up own = own
 rises_as kind.Change (Some table) rows up own = rising_put_all table.rows rows up

@@ -34,12 +34,14 @@ left_push es heads rows row n are is = ap (λ (rs : List Row). length rs) (left_
 
 -- the rows that wait stand at the end
 pub left_is : (es : List End) (heads : List ℕ) (rows : List Row) → AreEnds es heads rows → (length (rows_left es rows) ≤ length rows) × (drop (length rows - length (rows_left es rows)) rows ≡ rows_left es rows)
-left_is [] heads rows are = (omega arith, ap (λ (n : ℕ). drop n rows) (omega arith))
+left_is [] heads rows are = let none : length rows - length rows ≡ 0 = omega arith in (omega arith, ap (λ (n : ℕ). drop n rows) none)
 left_is (e ∷ es) heads rows are =
     let k = left_is es (drop e.head heads) (drop e.rows rows) are.2 in
-    let size = length-drop e.rows rows in (
+    let size = length-drop e.rows rows in
+    let left : ℕ = length (rows_left es (drop e.rows rows)) in
+    let same : length rows - left ≡ e.rows + (length (drop e.rows rows) - left) = omega (arith, k.0, size, are.1) in (
       omega (arith, k.0, size),
-      ap (λ (n : ℕ). drop n rows) (omega (arith, k.0, size, are.1)) ∙ sym (drop-drop (length (drop e.rows rows) - length (rows_left es (drop e.rows rows))) e.rows rows) ∙ k.1,
+      ap (λ (n : ℕ). drop n rows) same ∙ sym (drop-drop (length (drop e.rows rows) - length (rows_left es (drop e.rows rows))) e.rows rows) ∙ k.1,
     )
 
 -- ---- one more block

@@ -39,11 +39,11 @@ open_are_lines (Some o) blocks rows table place are part = All-append IsLine (ch
 -- one line more than that begins none
 bad_next : (lines : List (List ℕ)) (text rest : List ℕ) → All IsLine lines → text ≡ ended lines ++ rest → ((line behind : List ℕ) → rest ≡ line ++ 10 ∷ behind → IsLine line → Refused lines line)
     → Begins (length lines + 1) text → ⊥
-bad_next lines text rest are e no b =
+bad_next lines text rest are e never b =
     let taken = take (length lines + 1) (changes_lines b.blocks) in
     let left = drop (length lines + 1) (changes_lines b.blocks) in
     let one = one_more lines taken rest b.rest are (All-take IsLine (length lines + 1) (changes_lines b.blocks) (are_lines None b.blocks b.are)) (length-take-le (length lines + 1) (changes_lines b.blocks) b.many) (sym e ∙ b.text_is) in
-    no one.line one.behind one.rest_is one.is_line b.blocks left b.are
+    never one.line one.behind one.rest_is one.is_line b.blocks left b.are
     (sym (take-append-drop (length lines + 1) (changes_lines b.blocks)) ∙ ap (λ (ls : List (List ℕ)). ls ++ left) one.lines ∙ append_assoc lines (one.line ∷ []) left)
 
 -- and so the text is no change text, unless nothing is left
@@ -65,8 +65,8 @@ less_one n = omega arith
 
 is_bad : (lines : List (List ℕ)) (text rest : List ℕ) → Begins (length lines) text → All IsLine lines → text ≡ ended lines ++ rest → ((line behind : List ℕ) → rest ≡ line ++ 10 ∷ behind → IsLine line → Refused lines line)
     → ((blocks : List Block) → AreBlocks blocks → rest ≡ [] → changes_lines blocks ≡ lines → ⊥) → IsBadLine text (length lines + 1)
-is_bad lines text rest begins are e no whole =
-    let bad = bad_next lines text rest are e no in record {
+is_bad lines text rest begins are e never whole =
+    let bad = bad_next lines text rest are e never in record {
       none = no_changes lines text rest are e bad whole;
       before = subst (λ (n : ℕ). Begins n text) (sym (less_one (length lines))) begins;
       bad = bad;
@@ -102,9 +102,9 @@ module _ (r : Reader) (text rest : List ℕ) (is : IsReader r) (e : text ≡ end
 
   -- the next line was refused
   pub refused : (line behind : List ℕ) → IsCutAt 10 rest line behind → Refused (lines_so_far r) line → IsBadLine text (length (lines_so_far r) + 1)
-  refused line behind cut no =
+  refused line behind cut never =
       is_bad (lines_so_far r) text rest so_far_begins so_far_lines e
-      (λ l more f is_line. subst (λ (bytes : List ℕ). Refused (lines_so_far r) bytes) (first_split 10 line l behind more cut.without is_line (sym cut.split ∙ f)).0 no)
+      (λ l more f is_line. subst (λ (bytes : List ℕ). Refused (lines_so_far r) bytes) (first_split 10 line l behind more cut.without is_line (sym cut.split ∙ f)).0 never)
       (λ blocks are none same. omega (arith, ap (λ (bytes : List ℕ). length bytes) (sym cut.split ∙ none), length-append line (10 ∷ behind)))
 
   -- the text ends in a block

@@ -26,8 +26,8 @@ not_blank r = omega (arith, r.0)
 not_end : IsInRange 48 57 10 → ⊥
 not_end r = omega (arith, r.0)
 
-minus_no_end : 45 ≢ 10
-minus_no_end e = absurd (omega (arith, e))
+minus_no_end : ◌≢◌ {A = ℕ} 45 10
+minus_no_end e = omega (arith, e)
 
 -- ---- rows
 
@@ -62,10 +62,10 @@ row_cut line front behind row cut is e =
     first_split 44 front (decimal row.id) behind (value_text row.value) cut.without (lacks_in 44 row.id not_comma (omega (arith, is.0))) (sym cut.split ∙ e)
 
 pub no_id : (line front behind : List ℕ) → IsCutAt 44 line front behind → ReadsNumber front None → ReadsRow line None
-no_id line front behind cut no row is e = no row.id is.0 (row_cut line front behind row cut is e).0
+no_id line front behind cut never row is e = never row.id is.0 (row_cut line front behind row cut is e).0
 
 pub no_value : (line front behind : List ℕ) → IsCutAt 44 line front behind → ReadsValue behind None → ReadsRow line None
-no_value line front behind cut no row is e = no row.value is.1 (row_cut line front behind row cut is e).1
+no_value line front behind cut never row is e = never row.value is.1 (row_cut line front behind row cut is e).1
 
 pub row_read : (line front behind : List ℕ) (id : ℕ) (value : Val) → IsCutAt 44 line front behind → ReadsNumber front (Some id) → ReadsValue behind (Some value)
     → ReadsRow line (Some (record { id = id; value = value }))
@@ -107,9 +107,9 @@ pub no_blank : (bytes : List ℕ) → Lacks 32 bytes → ReadsSaid bytes None
 no_blank bytes lacks head outcome is e = has 32 head (outcome_text outcome) bytes lacks e
 
 pub no_rounds : (bytes front last : List ℕ) → IsCutLast 32 bytes front last → ReadsRounds last None → ReadsShown bytes None
-no_rounds bytes front last cut no head r low = (
-    λ e. no r low (digits_cut r bytes head (codes "settled") front last low cut (e ∙ settled_said head r)).1,
-    λ e. no r low (digits_cut r bytes head (codes "after") front last low cut (e ∙ after_said head r)).1,
+no_rounds bytes front last cut never head r low = (
+    λ e. never r low (digits_cut r bytes head (codes "settled") front last low cut (e ∙ settled_said head r)).1,
+    λ e. never r low (digits_cut r bytes head (codes "after") front last low cut (e ∙ after_said head r)).1,
 )
 
 pub no_word : (bytes front last : List ℕ) → IsCutLast 32 bytes front last → Lacks 32 front → ReadsShown bytes None
@@ -143,9 +143,9 @@ pub shown_read : (bytes : List ℕ) (p : List ℕ × Outcome) → ReadsShown byt
 shown_read bytes p h = h
 
 pub not_said : (bytes front last : List ℕ) → IsCutLast 32 bytes front last → last ≢ codes "unsettled" → ReadsShown bytes None → ReadsSaid bytes None
-not_said bytes front last cut ne no head (outcome.Settled r) is e = (no head r is).0 e
-not_said bytes front last cut ne no head (outcome.After r) is e = (no head r is).1 e
-not_said bytes front last cut ne no head outcome.Unsettled is e =
+not_said bytes front last cut ne never head (outcome.Settled r) is e = (never head r is).0 e
+not_said bytes front last cut ne never head (outcome.After r) is e = (never head r is).1 e
+not_said bytes front last cut ne never head outcome.Unsettled is e =
     ne (last_split 32 front head last (codes "unsettled") cut.without unsettled_lacks (sym cut.split ∙ e)).1
 
 -- ---- one line has one reading
@@ -233,10 +233,10 @@ opened = opened_as
 
 -- behind the word of this kind nothing is said, or nothing of a head
 pub not_opened : (k : Kind) (bytes line : List ℕ) → line ≡ word k ++ bytes → ReadsSaid bytes None → (l : Kind) (head : List ℕ) (o : Outcome) → Opens l head o line → ⊥
-not_opened kind.Full bytes line e no kind.Full head o h = no head o h.outcome (append_cancel_left (codes "view ") bytes (said head o) (sym e ∙ h.line_is))
-not_opened kind.Full bytes line e no kind.Change head o h = omega (arith, same_head (sym e ∙ h.line_is))
-not_opened kind.Change bytes line e no kind.Full head o h = omega (arith, same_head (sym e ∙ h.line_is))
-not_opened kind.Change bytes line e no kind.Change head o h = no head o h.outcome (append_cancel_left (codes "change ") bytes (said head o) (sym e ∙ h.line_is))
+not_opened kind.Full bytes line e never kind.Full head o h = never head o h.outcome (append_cancel_left (codes "view ") bytes (said head o) (sym e ∙ h.line_is))
+not_opened kind.Full bytes line e never kind.Change head o h = omega (arith, same_head (sym e ∙ h.line_is))
+not_opened kind.Change bytes line e never kind.Full head o h = omega (arith, same_head (sym e ∙ h.line_is))
+not_opened kind.Change bytes line e never kind.Change head o h = never head o h.outcome (append_cancel_left (codes "change ") bytes (said head o) (sym e ∙ h.line_is))
 
 pub no_head : (k : Kind) (bytes line : List ℕ) (o : Outcome) → IsOutcome o → line ≡ word k ++ bytes → bytes ≡ said [] o → (l : Kind) (head : List ℕ) (p : Outcome) → Opens l head p line → ⊥
 no_head k bytes line o is e f l head p h =

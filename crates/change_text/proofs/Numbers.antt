@@ -34,9 +34,9 @@ grows v (d ∷ ds) = let k : v * 10 + digit_value d ≤ digits_value_after 10 (v
 
 -- the first of what is left is no digit
 pub no_digit : (i : ℕ) (ds : List ℕ) → i < length ds → is_ascii_digit (get_or ds i 0) ≡ false → all_ascii_digits (drop i ds) ≡ all_ascii_digits ds → all_ascii_digits ds ≡ true → ⊥
-no_digit i ds lt no same all =
+no_digit i ds lt never same all =
     let cut : all_ascii_digits (get_or ds i 0 ∷ drop (suc i) ds) ≡ true = sym (ap all_ascii_digits (drop-cons ds i 0 lt)) ∙ same ∙ all in
-    let yes : is_ascii_digit (get_or ds i 0) ≡ true = (both (is_ascii_digit (get_or ds i 0)) (all_ascii_digits (drop (suc i) ds)) cut).0 in
+    let is_so : is_ascii_digit (get_or ds i 0) ≡ true = (both (is_ascii_digit (get_or ds i 0)) (all_ascii_digits (drop (suc i) ds)) cut).0 in
     cc
 
 -- another digit makes the number too large
@@ -48,13 +48,13 @@ too_large v i ds lt over same =
 
 -- one more digit
 pub all_step : (i : ℕ) (ds : List ℕ) → i < length ds → is_ascii_digit (get_or ds i 0) ≡ true → all_ascii_digits (drop i ds) ≡ all_ascii_digits ds → all_ascii_digits (drop (i + 1) ds) ≡ all_ascii_digits ds
-all_step i ds lt yes same =
-    ap (λ (b : Bool). b && all_ascii_digits (drop (i + 1) ds)) (sym yes) ∙ ap (λ (n : ℕ). is_ascii_digit (get_or ds i 0) && all_ascii_digits (drop n ds)) (add-one i) ∙ sym (ap all_ascii_digits (drop-cons ds i 0 lt)) ∙ same
+all_step i ds lt is_so same =
+    ap (λ (b : Bool). b && all_ascii_digits (drop (i + 1) ds)) (sym is_so) ∙ ap (λ (n : ℕ). is_ascii_digit (get_or ds i 0) && all_ascii_digits (drop n ds)) (add-one i) ∙ sym (ap all_ascii_digits (drop-cons ds i 0 lt)) ∙ same
 
 pub value_step : (v i : ℕ) (ds : List ℕ) → i < length ds → is_ascii_digit (get_or ds i 0) ≡ true → digits_value_after 10 v (drop i ds) ≡ digits_value_after 10 0 ds
     → digits_value_after 10 (v * 10 + (get_or ds i 0 - 48)) (drop (i + 1) ds) ≡ digits_value_after 10 0 ds
-value_step v i ds lt yes same =
-    ap (λ (d : ℕ). digits_value_after 10 (v * 10 + d) (drop (i + 1) ds)) (sym (digit_is (get_or ds i 0) yes))
+value_step v i ds lt is_so same =
+    ap (λ (d : ℕ). digits_value_after 10 (v * 10 + d) (drop (i + 1) ds)) (sym (digit_is (get_or ds i 0) is_so))
     ∙ ap (λ (n : ℕ). digits_value_after 10 (v * 10 + digit_value (get_or ds i 0)) (drop n ds)) (add-one i) ∙ sym (ap (digits_value_after 10 v) (drop-cons ds i 0 lt)) ∙ same
 
 -- ---- the number that digits spell
@@ -132,18 +132,18 @@ zero_below rest e (Num (pos n)) is f = absurd (first_of n 45 rest (omega (arith,
 zero_below rest e (Num (negsuc n)) is f = absurd (omega (arith, decimal_injective 0 (suc n) (omega arith) (omega (arith, is)) (sym e ∙ same_tail f)))
 
 pub below_not_read : (rest : List ℕ) → 0 < length rest → ReadsNumber rest None → ReadsValue (45 ∷ rest) None
-below_not_read rest some no Nil is f = omega (arith, some, ap length (same_tail f))
-below_not_read rest some no (Num (pos n)) is f = first_of n 45 rest (omega (arith, is)) f refl
-below_not_read rest some no (Num (negsuc n)) is f = no (suc n) (omega (arith, is)) (same_tail f)
+below_not_read rest some never Nil is f = omega (arith, some, ap length (same_tail f))
+below_not_read rest some never (Num (pos n)) is f = first_of n 45 rest (omega (arith, is)) f refl
+below_not_read rest some never (Num (negsuc n)) is f = never (suc n) (omega (arith, is)) (same_tail f)
 
 pub plain_read : (n : ℕ) (z : ℤ) (bytes : List ℕ) → z ≡ pos n → n < 2 ^ 63 → bytes ≡ decimal n → ReadsValue bytes (Some (Num z))
 plain_read n (pos m) bytes is low e = let same : m ≡ n = cc in (omega (arith, same, low), e ∙ ap decimal (sym same))
 plain_read n (negsuc m) bytes is low e = absurd cc
 
 pub plain_not_read : (b : ℕ) (bs : List ℕ) → b ≢ 45 → ReadsNumber (b ∷ bs) None → ReadsValue (b ∷ bs) None
-plain_not_read b bs ne no Nil is f = ne (same_head f)
-plain_not_read b bs ne no (Num (pos n)) is f = no n is f
-plain_not_read b bs ne no (Num (negsuc n)) is f = ne (same_head f)
+plain_not_read b bs ne never Nil is f = ne (same_head f)
+plain_not_read b bs ne never (Num (pos n)) is f = never n is f
+plain_not_read b bs ne never (Num (negsuc n)) is f = ne (same_head f)
 
 pub nothing_read : ReadsValue [] None
 nothing_read Nil is f = absurd cc

@@ -20,16 +20,16 @@ use Rattle.change_text.proofs.Blocks.{Behind, GoesOn, are_push, behind_rows, blo
 
 another_opening : (before : Option Block) (line : List ℕ) (x : List (List ℕ)) (more : List Block) → AreFrom before more → line ∷ x ≡ changes_lines more
     → ((b : Block) → IsBlock b → Follows before b → line ≡ opening_line b.kind b.head b.outcome → ⊥) → ⊥
-another_opening before line x [] are e no = cc
-another_opening before line x (b ∷ more) are e no = no b are.0 are.1 (same_head e)
+another_opening before line x [] are e never = cc
+another_opening before line x (b ∷ more) are e never = never b are.0 are.1 (same_head e)
 
 pub refused_opening : (blocks : List Block) (line : List ℕ) → AreBlocks blocks → ((b : Block) → IsBlock b → Follows (last_table None blocks) b → line ≡ opening_line b.kind b.head b.outcome → ⊥) → Refused (changes_lines blocks ++ []) line
-refused_opening blocks line are no others more q e =
+refused_opening blocks line are never others more q e =
     let goes = blocks_front None blocks others (line ∷ more) are q (sym (e ∙ append_assoc (changes_lines blocks) [] (line ∷ more))) in
-    another_opening (last_table None blocks) line more goes.more goes.are goes.lines no
+    another_opening (last_table None blocks) line more goes.more goes.are goes.lines never
 
 pub opens_nothing : (blocks : List Block) (line : List ℕ) → AreBlocks blocks → ((k : Kind) (head : List ℕ) (o : Outcome) → Opens k head o line → ⊥) → Refused (changes_lines blocks ++ []) line
-opens_nothing blocks line are no = refused_opening blocks line are (λ b is follows e. no b.kind b.head b.outcome (record { head = is.head; outcome = is.outcome; line_is = e }))
+opens_nothing blocks line are never = refused_opening blocks line are (λ b is follows e. never b.kind b.head b.outcome (record { head = is.head; outcome = is.outcome; line_is = e }))
 
 may_both : (x y : Outcome) → x ≢ outcome.Unsettled → y ≢ outcome.Unsettled → may_change (Some x) y ≡ true
 may_both (outcome.Settled r) (outcome.Settled s) p q = refl
@@ -60,13 +60,13 @@ may_follow kind.Change None b e none = absurd cc
 may_follow kind.Change (Some table) b e none = let m = both_may table.outcome b.outcome e in (m.0, m.1, subst (λ (rows : List Row). All (Differs table.rows) rows) (sym none) (All-nil (Differs table.rows)))
 
 pub stands_nowhere : (blocks : List Block) (line head : List ℕ) (k : Kind) (o : Outcome) → AreBlocks blocks → Opens k head o line → may_stand (last_outcome (last_table None blocks)) k o ≡ false → Refused (changes_lines blocks ++ []) line
-stands_nowhere blocks line head k o are opens no =
+stands_nowhere blocks line head k o are opens never =
     refused_opening blocks line are (λ b is follows e.
     let same = same_opening b.kind k b.head head b.outcome o is.outcome opens.outcome (sym e ∙ opens.line_is) in
-    let yes : may_stand (last_outcome (last_table None blocks)) k o ≡ true =
+    let is_so : may_stand (last_outcome (last_table None blocks)) k o ≡ true =
     subst (λ (l : Kind). may_stand (last_outcome (last_table None blocks)) l o ≡ true) same.0
     (subst (λ (p : Outcome). may_stand (last_outcome (last_table None blocks)) b.kind p ≡ true) same.2 (stands b.kind (last_table None blocks) b follows)) in
-    true≢false (sym yes ∙ no))
+    true≢false (sym is_so ∙ never))
 
 none_has_rows : (o : Outcome) → HasRows o []
 none_has_rows (outcome.Settled r) = tt
@@ -99,20 +99,20 @@ opened_lines blocks o line rows none opens =
 another_row : (before : Option Block) (b c : Block) (line : List ℕ) (x : List (List ℕ)) → IsBlock b → IsBlock c → Follows before c → c.kind ≡ b.kind → c.head ≡ b.head → c.outcome ≡ b.outcome → line ≢ last_line → Behind b.rows c.rows line
     → ((row : Row) (rest : List Row) → line ≡ row_line row → IsBlock (record { kind = b.kind; head = b.head; outcome = b.outcome; rows = b.rows ++ row ∷ rest })
     → Follows before (record { kind = b.kind; head = b.head; outcome = b.outcome; rows = b.rows ++ row ∷ rest }) → ⊥) → ⊥
-another_row before b c line x p q follows k head o ne (inl h) no = ne h.1
-another_row before b c line x p q follows k head o ne (inr h) no =
+another_row before b c line x p q follows k head o ne (inl h) never = ne h.1
+another_row before b c line x p q follows k head o ne (inr h) never =
     let longer : Block = record { kind = b.kind; head = b.head; outcome = b.outcome; rows = b.rows ++ h.0.0 ∷ h.0.1 } in
     let same : c ≡ longer = same_block c longer k head o h.1 in
-    no h.0.0 h.0.1 h.2 (subst (λ (d : Block). IsBlock d) same q) (subst (λ (d : Block). Follows before d) same follows)
+    never h.0.0 h.0.1 h.2 (subst (λ (d : Block). IsBlock d) same q) (subst (λ (d : Block). Follows before d) same follows)
 
 another_line : (before : Option Block) (b : Block) (line : List ℕ) (x : List (List ℕ)) (more : List Block) → IsBlock b → AreFrom before more → front_lines b ++ line ∷ x ≡ changes_lines more → line ≢ last_line
     → ((row : Row) (rest : List Row) → line ≡ row_line row → IsBlock (record { kind = b.kind; head = b.head; outcome = b.outcome; rows = b.rows ++ row ∷ rest })
     → Follows before (record { kind = b.kind; head = b.head; outcome = b.outcome; rows = b.rows ++ row ∷ rest }) → ⊥) → ⊥
-another_line before b line x [] is are e ne no = cc
-another_line before b line x (c ∷ more) is are e ne no =
+another_line before b line x [] is are e ne never = cc
+another_line before b line x (c ∷ more) is are e ne never =
     let f = e ∙ lines_split c (changes_lines more) in
     let opening = same_opening c.kind b.kind c.head b.head c.outcome b.outcome are.0.outcome is.outcome (sym (same_head f)) in
-    another_row before b c line x is are.0 are.1 opening.0 opening.1 opening.2 ne (behind_rows b.rows c.rows line x (changes_lines more) is.rows are.0.rows (same_tail f)) no
+    another_row before b c line x is are.0 are.1 opening.0 opening.1 opening.2 ne (behind_rows b.rows c.rows line x (changes_lines more) is.rows are.0.rows (same_tail f)) never
 
 -- what no block has behind those rows
 abbrev pub NoRow : Option Block → Block → Row → Type 0
@@ -121,18 +121,18 @@ NoRow before b row = (rest : List Row) → IsBlock (record { kind = b.kind; head
 
 refused_line : (blocks : List Block) (b : Block) (line : List ℕ) → AreBlocks blocks → IsBlock b → line ≢ last_line → ((row : Row) (rest : List Row) → line ≡ row_line row → IsBlock (record { kind = b.kind; head = b.head; outcome = b.outcome; rows = b.rows ++ row ∷ rest })
     → Follows (last_table None blocks) (record { kind = b.kind; head = b.head; outcome = b.outcome; rows = b.rows ++ row ∷ rest }) → ⊥) → Refused (changes_lines blocks ++ front_lines b) line
-refused_line blocks b line are is ne no others more q e =
+refused_line blocks b line are is ne never others more q e =
     let goes = blocks_front None blocks others (front_lines b ++ line ∷ more) are q (sym (e ∙ append_assoc (changes_lines blocks) (front_lines b) (line ∷ more))) in
-    another_line (last_table None blocks) b line more goes.more is goes.are goes.lines ne no
+    another_line (last_table None blocks) b line more goes.more is goes.are goes.lines ne never
 
 pub no_row_read : (blocks : List Block) (b : Block) (line : List ℕ) → AreBlocks blocks → IsBlock b → line ≢ last_line → ReadsRow line None → Refused (changes_lines blocks ++ front_lines b) line
-no_row_read blocks b line are is ne no = refused_line blocks b line are is ne (λ row rest e more follows. no row (all_middle IsRow b.rows row rest more.rows) e)
+no_row_read blocks b line are is ne never = refused_line blocks b line are is ne (λ row rest e more follows. never row (all_middle IsRow b.rows row rest more.rows) e)
 
 pub row_refused : (blocks : List Block) (b : Block) (line : List ℕ) (row : Row) → AreBlocks blocks → IsBlock b → line ≢ last_line → ReadsRow line (Some row) → NoRow (last_table None blocks) b row → Refused (changes_lines blocks ++ front_lines b) line
-row_refused blocks b line row are is ne read no =
+row_refused blocks b line row are is ne read never =
     refused_line blocks b line are is ne (λ other rest e more follows.
     let same : other ≡ row = same_row_line other row (all_middle IsRow b.rows other rest more.rows) read.0 (sym e ∙ read.1) in
-    no rest
+    never rest
     (subst (λ (r : Row). IsBlock (record { kind = b.kind; head = b.head; outcome = b.outcome; rows = b.rows ++ r ∷ rest })) same more)
     (subst (λ (r : Row). Follows (last_table None blocks) (record { kind = b.kind; head = b.head; outcome = b.outcome; rows = b.rows ++ r ∷ rest })) same follows))
 
@@ -216,10 +216,10 @@ pub closed_lines : (blocks : List Block) (b : Block) → changes_lines (blocks +
 closed_lines blocks b = append-nil (changes_lines (blocks ++ b ∷ [])) ∙ lines_push blocks b ∙ sym (append_assoc (changes_lines blocks) (front_lines b) (last_line ∷ []))
 
 pub closed : (blocks : List Block) (b : Block) (rows table : List Row) (place : ℕ) → rows ≡ [] → place ≡ 0 → table ≡ rows_after b.kind (last_table None blocks) b.rows → IsShut (last_table None (blocks ++ b ∷ [])) rows table place
-closed blocks b rows table place none zero keeps = record {
+closed blocks b rows table place none at_zero keeps = record {
   none = none;
   keeps = keeps ∙ sym (ap last_rows (last_push None blocks b));
-  place_is = zero;
+  place_is = at_zero;
 }
 
 pub closed_last : (blocks : List Block) (b : Block) → Some b.outcome ≡ last_outcome (last_table None (blocks ++ b ∷ []))

@@ -74,10 +74,10 @@ ReadsSaid bytes None = (head : List ℕ) (outcome : Outcome) → IsOutcome outco
 ReadsSaid bytes (Some p) = IsOutcome p.1 × (bytes ≡ said p.0 p.1)
 
 -- what the first line of a block says
-pub record Opens (kind : Kind) (head : List ℕ) (outcome : Outcome) (line : List ℕ) : Type 0 where
-  pub head : IsHead head
-  pub outcome : IsOutcome outcome
-  pub line_is : line ≡ opening_line kind head outcome
+pub record Opens (k : Kind) (of : List ℕ) (how : Outcome) (line : List ℕ) : Type 0 where
+  pub head : IsHead of
+  pub outcome : IsOutcome how
+  pub line_is : line ≡ opening_line k of how
 
 -- the bytes stand behind the word of a kind
 abbrev pub IsBehindWord : Kind → List ℕ → List ℕ → Type 0
@@ -89,7 +89,7 @@ held_said None = None
 held_said (Some p) = Some (p.0.now, p.1)
 
 abbrev pub OpensAs : List ℕ → Option Opening → Type 0
-OpensAs line None = (kind : Kind) (head : List ℕ) (outcome : Outcome) → Opens kind head outcome line → ⊥
+OpensAs line None = (k : Kind) (head : List ℕ) (how : Outcome) → Opens k head how line → ⊥
 OpensAs line (Some o) = Opens o.kind o.head.now o.outcome line
 
 -- ---- rows by their ids
