@@ -1,13 +1,15 @@
 -- Blocks in memory: one more row that waits, one more block, one block after the other.
-use Rattle.std.proofs.Common.{◌≡◌, ◌∙◌, ℕ, zero, suc, ◌+◌, ◌-◌, ◌<◌, ◌≤◌, List, [], ◌∷◌, ◌++◌, length, take, drop, refl, sym, ap, ap₂, subst, arith, append-nil, length-append, length-drop, drop-cons, get_or}
+use Rattle.std.proofs.Common.{◌≡◌, ◌∙◌, ℕ, zero, suc, ◌+◌, ◌-◌, ◌<◌, ◌≤◌, List, [], ◌∷◌, ◌++◌, length, take, drop, refl, sym, ap, ap₂, subst, arith, append-nil, length-append, length-drop, drop-cons, get_or, Bool, true, if◌then◌else◌}
 use Rattle.std.proofs.lemmas.List.{drop-append-le, drop-drop, drop_all, drop_more, length_push, take-append-le, take_all}
+use Rattle.vertex_lang.specs.declared.lone.Outcome.TheVariants as outcome
 use Rattle.change_text.specs.declared.flat.End.{End}
+use Rattle.change_text.specs.declared.kind.Kind.TheVariants as kind
 use Rattle.change_text.specs.declared.row.Row.{Row}
 use Rattle.change_text.specs.Blocks.{Block}
 use Rattle.change_text.specs.Memory.{AreEnds, blocks_of, rows_left}
 use Rattle.change_text.proofs.Split.{same_cons}
 
-abbrev block_of : End → List ℕ → List Row → Block
+abbrev pub block_of : End → List ℕ → List Row → Block
 block_of e heads rows = record { kind = e.kind; head = take e.head heads; outcome = e.outcome; rows = take e.rows rows }
 
 -- rows behind those of the blocks are no part of these
@@ -44,6 +46,9 @@ left_is (e ∷ es) heads rows are =
       ap (λ (n : ℕ). drop n rows) same ∙ sym (drop-drop (length (drop e.rows rows) - length (rows_left es (drop e.rows rows))) e.rows rows) ∙ k.1,
     )
 
+pub pushed : (ok : Bool) (now longer was : List End) → now ≡ (if ok then longer else was) → ok ≡ true → now ≡ longer
+pushed ok now longer was e done = e ∙ ap (λ (b : Bool). if b then longer else was) done
+
 -- ---- one more block
 
 module _ (e : End) (head : List ℕ) (fits : e.head ≡ length head) where
@@ -75,10 +80,14 @@ module _ (e : End) (head : List ℕ) (fits : e.head ≡ length head) where
 
 -- ---- one block after the other
 
-pub next_blocks : (es : List End) (i : ℕ) (e : End) (heads : List ℕ) (rows : List Row) → i < length es → get_or es i e ≡ e → blocks_of (drop i es) heads rows ≡ block_of e heads rows ∷ blocks_of (drop (i + 1) es) (drop e.head heads) (drop e.rows rows)
-next_blocks es i e heads rows lt is =
-    ap (λ (ds : List End). blocks_of ds heads rows) (drop_more es i e lt ∙ ap (λ (d : End). d ∷ drop (i + 1) es) is)
+pub next_blocks : (es : List End) (i : ℕ) (d : End) (heads : List ℕ) (rows : List Row) → i < length es
+    → blocks_of (drop i es) heads rows ≡ block_of (get_or es i d) heads rows ∷ blocks_of (drop (i + 1) es) (drop (get_or es i d).head heads) (drop (get_or es i d).rows rows)
+next_blocks es i d heads rows lt = ap (λ (ds : List End). blocks_of ds heads rows) (drop_more es i d lt)
 
-pub next_ends : (es : List End) (i : ℕ) (e : End) (heads : List ℕ) (rows : List Row) → i < length es → get_or es i e ≡ e → AreEnds (drop i es) heads rows → (e.head ≤ length heads) × (e.rows ≤ length rows) × AreEnds (drop (i + 1) es) (drop e.head heads) (drop e.rows rows)
-next_ends es i e heads rows lt is are =
-    subst (λ (ds : List End). AreEnds ds heads rows) (drop_more es i e lt ∙ ap (λ (d : End). d ∷ drop (i + 1) es) is) are
+pub next_ends : (es : List End) (i : ℕ) (d : End) (heads : List ℕ) (rows : List Row) → i < length es → AreEnds (drop i es) heads rows
+    → ((get_or es i d).head ≤ length heads) × ((get_or es i d).rows ≤ length rows) × AreEnds (drop (i + 1) es) (drop (get_or es i d).head heads) (drop (get_or es i d).rows rows)
+next_ends es i d heads rows lt are = subst (λ (ds : List End). AreEnds ds heads rows) (drop_more es i d lt) are
+
+-- an end that none is
+abbrev pub other_end : End
+other_end = record { kind = kind.Full; outcome = outcome.Settled 0; head = 0; rows = 0 }

@@ -1,5 +1,5 @@
 -- A text is judged by the lines that were read of it and what is left.
-use Rattle.std.proofs.Common.{◌≡◌, ◌≢◌, ◌∙◌, ℕ, zero, suc, ◌+◌, ◌-◌, ◌<◌, ◌≤◌, List, [], ◌∷◌, ◌++◌, length, take, drop, map, Option, Some, None, All, refl, sym, ap, subst, arith, append_assoc, append-nil, length-append, take_all, take_at, take-append-drop}
+use Rattle.std.proofs.Common.{◌≡◌, ◌≢◌, ◌∙◌, ℕ, zero, suc, ◌+◌, ◌-◌, ◌<◌, ◌≤◌, List, [], ◌∷◌, ◌++◌, length, take, drop, map, Option, Some, None, All, refl, sym, ap, subst, arith, append_assoc, append-nil, length-append, take_all, take_at, take-append-drop, is_some, true}
 use Rattle.std.proofs.lemmas.List.{length-take-le}
 use Rattle.std.proofs.lemmas.List.Elements.{All-append, All-take, All-nil}
 use Rattle.change_text.specs.declared.reader.Opened.{Opened}
@@ -84,6 +84,10 @@ open_whole (Some p) o blocks others rows table place some are part q e =
     let goes = blocks_front None blocks others (front_lines (opened_block p rows)) are q (sym e) in
     not_whole (last_table None blocks) (opened_block p rows) goes.more part.block goes.are goes.lines
 
+some_of : (x : Option Opened) → is_some x ≡ true → (o : Opened) × (x ≡ Some o)
+some_of None e = absurd cc
+some_of (Some o) e = (o, refl)
+
 -- ---- a reader's text
 
 module _ (r : Reader) (text rest : List ℕ) (is : IsReader r) (e : text ≡ ended (lines_so_far r) ++ rest) where
@@ -113,6 +117,9 @@ module _ (r : Reader) (text rest : List ℕ) (is : IsReader r) (e : text ≡ end
       is_bad (lines_so_far r) text rest so_far_begins so_far_lines e
       (λ l behind f is_line. absurd (omega (arith, ap (λ (bytes : List ℕ). length bytes) (sym f ∙ none), length-append l (10 ∷ behind))))
       (λ blocks are empty same. open_whole r.begun o r.flat.blocks blocks r.flat.rows r.table.items r.place some is.are is.part are same)
+
+  pub missing_end : is_some r.begun ≡ true → rest ≡ [] → IsBadLine text (length (lines_so_far r) + 1)
+  missing_end some none = let o = some_of r.begun some in missing o.0 o.1 none
 
   -- the text ends behind a block
   pub whole_text : r.begun ≡ None → rest ≡ [] → IsChanges text r.flat.blocks

@@ -3,6 +3,7 @@ use Rattle.std.proofs.Common.{◌≡◌, ◌≢◌, ◌∙◌, ◌⊎◌, ℕ, z
 use Rattle.std.proofs.lemmas.List.{append_cancel_left}
 use Rattle.std.proofs.lemmas.Fmt.{decimal_injective, decimal_nonempty}
 use Rattle.std.proofs.lemmas.List.Elements.{All-append, All-cons, All-head, All-map, All-nil, All-tail}
+use denote.Ref.{Bor}
 use Rattle.std.specs.Int.{IsInRange}
 use Rattle.graph_model.specs.declared.value.Val.{Val}
 use Rattle.vertex_lang.specs.declared.lone.Outcome.{Outcome}
@@ -13,7 +14,7 @@ use Rattle.change_text.specs.declared.kind.Kind.TheVariants as kind
 use Rattle.change_text.specs.declared.row.Row.{Row}
 use Rattle.change_text.specs.Blocks.{Block, IsBlock, IsHead, IsLine, IsOutcome, IsRow}
 use Rattle.change_text.specs.Spelling.{front_lines, block_lines, last_line, opening_line, row_line, word}
-use Rattle.change_text.specs.Inside.{Lacks, IsCutAt, IsCutLast, Opens, ReadsNumber, ReadsValue, ReadsRow, ReadsRounds, ReadsShown, ReadsSaid, said}
+use Rattle.change_text.specs.Inside.{Lacks, IsCutAt, IsCutLast, Opens, ReadsNumber, ReadsValue, ReadsRow, ReadsRounds, ReadsShown, ReadsSaid, held_said, said}
 use Rattle.change_text.proofs.Split.{first_split, has, lacks_append, lacks_back, lacks_by_test, lacks_cons, lacks_front, lacks_nil, lacks_same, lacks_tail, last_split, same_head, same_tail}
 use Rattle.change_text.proofs.Numbers.{lacks_in, lacks_value, same_value_text}
 
@@ -147,6 +148,10 @@ not_said bytes front last cut ne never head (outcome.Settled r) is e = (never he
 not_said bytes front last cut ne never head (outcome.After r) is e = (never head r is).1 e
 not_said bytes front last cut ne never head outcome.Unsettled is e =
     ne (last_split 32 front head last (codes "unsettled") cut.without unsettled_lacks (sym cut.split ∙ e)).1
+
+pub said_by : (bytes front last : List ℕ) (r : Option (Bor (List ℕ) × Outcome)) → IsCutLast 32 bytes front last → last ≢ codes "unsettled" → ReadsShown bytes (held_said r) → ReadsSaid bytes (held_said r)
+said_by bytes front last None cut ne h = not_said bytes front last cut ne h
+said_by bytes front last (Some p) cut ne h = h
 
 -- ---- one line has one reading
 

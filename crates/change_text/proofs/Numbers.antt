@@ -1,5 +1,5 @@
 -- Whole numbers as they are spelled.
-use Rattle.std.proofs.Common.{◌≡◌, ◌≢◌, ◌∙◌, ℕ, zero, suc, ◌+◌, ◌-◌, ◌*◌, ◌<◌, ◌≤◌, ◌^◌, ◌&&◌, Bool, true, false, ℤ, pos, negsuc, List, [], ◌∷◌, ◌++◌, length, drop, get_or, Option, Some, None, refl, sym, ap, subst, arith, add-one, drop-cons, decimal}
+use Rattle.std.proofs.Common.{◌≡◌, ◌≢◌, ◌∙◌, ℕ, zero, suc, ◌+◌, ◌-◌, ◌*◌, ◌<◌, ◌≤◌, ◌^◌, ◌&&◌, Bool, true, false, ℤ, pos, negsuc, List, [], ◌∷◌, ◌++◌, length, drop, get_or, Option, Some, None, refl, sym, ap, subst, arith, add-one, drop-cons, decimal, IfSome, IfNone}
 use Rattle.std.specs.Fmt.{signed_decimal}
 use Rattle.std.specs.Char.{digit_value, is_ascii_digit}
 use Rattle.std.specs.Int.{IsInRange}
@@ -13,7 +13,7 @@ use Rattle.graph_model.specs.declared.value.Val.{Val}
 use Rattle.graph_model.specs.declared.value.Val.TheVariants.{Nil, Num}
 use Rattle.result_tables.specs.TableText.{value_text}
 use Rattle.change_text.specs.Blocks.{IsValue}
-use Rattle.change_text.specs.Inside.{Lacks, ReadsNumber, ReadsValue}
+use Rattle.change_text.specs.Inside.{Lacks, ReadsNumber, ReadsRounds, ReadsValue}
 use Rattle.change_text.proofs.Split.{same_head, same_tail, lacks_cons, lacks_same}
 
 own : IsNumeralModel (λ ds. all_ascii_digits ds ≡ true) (digits_value 10)
@@ -91,6 +91,17 @@ pub zero_leads : (ds : List ℕ) → get_or ds 0 0 ≡ 48 → length ds ≢ 1 �
 zero_leads ds z more n low is =
     more (ap length is ∙ zero_first n low (sym (ap (λ (xs : List ℕ). get_or xs 0 0) is) ∙ z))
 
+pub read_by : (ds : List ℕ) (r : Option ℕ) → 0 < length ds → get_or ds 0 0 ≢ 48 → IfSome r (λ n. all_ascii_digits ds ≡ true) → IfSome r (λ n. digits_value 10 ds ≡ n) → IfSome r (λ n. n < 2 ^ 63)
+    → IfNone r (all_ascii_digits ds ≡ true → 2 ^ 63 ≤ digits_value 10 ds) → ReadsNumber ds r
+read_by ds None some ne all value low large = not_spelled ds large
+read_by ds (Some n) some ne all value low large = spelled ds n some ne all value low
+
+-- more than 2^32 - 1 rounds
+pub too_many : (ds : List ℕ) (m : ℕ) → ReadsNumber ds (Some m) → 4_294_967_295 < m → ReadsRounds ds None
+too_many ds m read over n low e =
+    let same : m ≡ n = decimal_injective m n (omega (arith, read.0)) (omega (arith, low)) (sym read.1 ∙ e) in
+    omega (arith, same, over, low)
+
 -- ---- what digits lack
 
 pub lacks_in : (s n : ℕ) → (IsInRange 48 57 s → ⊥) → n < 2 ^ 64 → Lacks s (decimal n)
@@ -149,6 +160,10 @@ pub nothing_read : ReadsValue [] None
 nothing_read Nil is f = absurd cc
 nothing_read (Num (pos n)) is f = omega (arith, decimal_nonempty n (omega (arith, is)), ap length f)
 nothing_read (Num (negsuc n)) is f = absurd cc
+
+pub no_bytes_read : (bytes : List ℕ) → length bytes ≡ 0 → ReadsValue bytes None
+no_bytes_read [] z = nothing_read
+no_bytes_read (b ∷ bs) z = absurd (omega (arith, z))
 
 -- ---- one value has one spelling
 

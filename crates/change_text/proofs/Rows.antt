@@ -246,6 +246,11 @@ module _ {X : Type 0} (P : X → Type 0) where
   all_middle [] x ys all = All-head P x ys all
   all_middle (y ∷ xs) x ys all = all_middle xs x ys (All-tail P y (xs ++ x ∷ ys) all)
 
+module _ {X : Type 0} (P : X → Type 0) where
+  All-front : (xs ys : List X) → All P (xs ++ ys) → All P xs
+  All-front [] ys all = All-nil P
+  All-front (x ∷ xs) ys all = All-cons P x xs (All-head P x (xs ++ ys) all) (All-front xs ys (All-tail P x (xs ++ ys) all))
+
 next_le : (n : ℕ) (rows : List Row) (row : Row) (rest : List Row) → IsRising (rows ++ row ∷ rest) → n ≤ row.id → next n rows ≤ row.id
 next_le n [] row rest up le = le
 next_le n (r ∷ rs) row rest up le =
@@ -257,3 +262,24 @@ rises_behind rows row rest up = next_le 0 rows row rest up (omega arith)
 
 pub put_push : (rows changes : List Row) (row : Row) → put_all rows (changes ++ row ∷ []) ≡ put (put_all rows changes) row
 put_push rows changes row = fold_push put rows changes row
+
+-- ---- the rows of a change, one after the other
+
+next_at : (changes : List Row) (i : ℕ) (d : Row) → IsRising changes → i < length changes → next_id (take i changes) ≤ (get_or changes i d).id
+next_at changes i d up lt =
+    rises_behind (take i changes) (get_or changes i d) (drop (suc i) changes) (subst (λ (rs : List Row). IsRising rs) (cut_row changes i d lt) up)
+
+pub below_at : (changes xs : List Row) (i : ℕ) (d : Row) → IsRising changes → i < length changes → All (λ r. r.id < next_id (take i changes)) xs → All (λ r. r.id < (get_or changes i d).id) xs
+below_at changes xs i d up lt below =
+    let le : next_id (take i changes) ≤ (get_or changes i d).id = next_at changes i d up lt in
+    All-weaker (λ (r : Row). r.id < next_id (take i changes)) (λ (r : Row). r.id < (get_or changes i d).id) (λ r h. omega (arith, h, le)) xs below
+
+rising_front_part : (front rest : List Row) → IsRising (front ++ rest) → IsRising front
+rising_front_part [] rest up = tt
+rising_front_part (r ∷ rs) rest up = (All-front (λ (s : Row). r.id < s.id) rs rest up.0, rising_front_part rs rest up.1)
+
+pub differs_at : (table changes now : List Row) (i : ℕ) (d : Row) → IsRising changes → i < length changes → All (Differs table) changes → now ≡ put_all table (take i changes) → Differs now (get_or changes i d)
+differs_at table changes now i d up lt all is =
+    let front : IsRising (take i changes) = rising_front_part (take i changes) (get_or changes i d ∷ drop (suc i) changes) (subst (λ (rs : List Row). IsRising rs) (cut_row changes i d lt) up) in
+    subst (λ (rs : List Row). Differs rs (get_or changes i d)) (sym is)
+    (differs_after table (take i changes) (get_or changes i d) (all_lower (take i changes) (get_or changes i d).id front (next_at changes i d up lt)) (all i d lt))

@@ -1,6 +1,8 @@
 -- Lists that are cut at the first or at the last of one byte.
-use Rattle.std.proofs.Common.{◌≡◌, ◌≢◌, ◌∙◌, ℕ, zero, suc, ◌+◌, ◌<◌, ◌≤◌, Bool, true, false, List, [], ◌∷◌, ◌++◌, length, take, drop, get_or, All, refl, sym, ap, subst, arith, drop-cons, take-append-drop, length-append, eqb, eq-eqb, true≢false, ◌||◌}
+use Rattle.std.proofs.Common.{◌≡◌, ◌≢◌, ◌∙◌, ℕ, zero, suc, ◌+◌, ◌<◌, ◌≤◌, Bool, true, false, List, [], ◌∷◌, ◌++◌, length, take, drop, get_or, All, refl, sym, ap, subst, arith, drop-cons, take-append-drop, length-append, ◌==◌, eqb, eq-eqb, eqb-true, true≢false, ◌||◌}
 use Rattle.std.specs.List.{list_any}
+use Rattle.std.specs.Str.{bytes_eq}
+use Rattle.std.proofs.lemmas.Slice.Eq.{bytes_eq-Decides}
 use Rattle.std.proofs.lemmas.List.Elements.{All-append, All-cons, All-from_get_or, All-head, All-nil, All-tail}
 use Rattle.change_text.specs.Inside.{Lacks, IsCutAt, IsCutLast}
 
@@ -74,3 +76,18 @@ last_split s (c ∷ a) (d ∷ b) x y p q e = let r = last_split s a b x y p q (s
 pub cut_at : (s i : ℕ) (bytes : List ℕ) → i < length bytes → get_or bytes i 0 ≡ s → bytes ≡ take i bytes ++ s ∷ drop (suc i) bytes
 cut_at s i bytes lt is =
     sym (take-append-drop i bytes) ∙ ap (λ (rest : List ℕ). take i bytes ++ rest) (drop-cons bytes i 0 lt ∙ ap (λ (b : ℕ). b ∷ drop (suc i) bytes) is)
+
+-- ---- what a comparison says
+
+pub some_items : {X : Type 0} (xs : List X) → (length xs == 0) ≡ false → 0 < length xs
+some_items [] e = absurd cc
+some_items (x ∷ xs) e = omega arith
+
+pub no_items : {X : Type 0} (xs : List X) → (length xs == 0) ≡ true → length xs ≡ 0
+no_items xs e = eqb-true (length xs) 0 e
+
+pub is_text : (xs ys zs : List ℕ) → true ≡ bytes_eq xs ys → ys ≡ zs → xs ≡ zs
+is_text xs ys zs e f = (bytes_eq-Decides xs ys).0 (sym e) ∙ f
+
+pub other_text : (xs ys zs : List ℕ) → false ≡ bytes_eq xs ys → ys ≡ zs → xs ≡ zs → ⊥
+other_text xs ys zs e f g = true≢false (sym ((bytes_eq-Decides xs ys).1 (g ∙ sym f)) ∙ sym e)

@@ -10,7 +10,7 @@ use Rattle.change_text.specs.declared.reader.Opened.{Opened}
 use Rattle.change_text.specs.declared.row.Row.{Row}
 use Rattle.change_text.specs.Blocks.{Block, AreBlocks, AreFrom, Differs, Follows, FollowsAs, HasRows, IsBlock, IsRising, IsRow, put, put_all, rows_after, table_of}
 use Rattle.change_text.specs.Spelling.{block_lines, changes_lines, front_lines, last_line, opening_line, row_line}
-use Rattle.change_text.specs.Inside.{Brings, IsOpen, IsPart, IsShut, KeepsTable, Opens, PutsRow, ReadsRow, Refused, RisesIn, has_rows, last_outcome, last_rows, last_table, may_change, may_stand, next_id, opened_block}
+use Rattle.change_text.specs.Inside.{Brings, IsChanging, IsOpen, IsOpenAs, IsPart, IsShut, KeepsTable, Opens, PutsRow, ReadsRow, Refused, RisesIn, has_rows, last_outcome, last_rows, last_table, may_change, may_stand, next_id, open_lines, opened_block, settled}
 use Rattle.change_text.proofs.Split.{same_head, same_tail}
 use Rattle.change_text.proofs.Lines.{same_opening, same_row_line}
 use Rattle.change_text.proofs.Rows.{all_lower, all_middle, differs_after, differs_before, next_push, put_push, rises_behind, rising_put_all, rising_push}
@@ -235,3 +235,79 @@ pub kept_rises : (blocks : List Block) (o : Opened) (rows table : List Row) (pla
 kept_rises blocks o rows table place are change is =
     let keeps = subst (λ (k : Kind). KeepsTable k (last_table None blocks) rows table place) change is.keeps in
     subst (λ (rs : List Row). IsRising rs) (sym keeps.0) (rises_so_far (last_table None blocks) rows (last_rises None blocks tt are) is.block.rising)
+
+-- ---- a reader that takes a line of an open block
+
+pub row_none : (begun : Option Opened) (blocks : List Block) (rows table : List Row) (place : ℕ) (k : Kind) (how : Outcome) (line : List ℕ) → AreBlocks blocks → IsPart begun (last_table None blocks) rows table place
+    → IsOpenAs begun k how → line ≢ last_line → ReadsRow line None → Refused (changes_lines blocks ++ open_lines begun rows) line
+row_none None blocks rows table place k how line are part opens ne read = absurd opens
+row_none (Some o) blocks rows table place k how line are part opens ne read = no_row_read blocks (opened_block o rows) line are part.block ne read
+
+pub row_bad : (begun : Option Opened) (blocks : List Block) (rows table : List Row) (place : ℕ) (k : Kind) (how : Outcome) (line : List ℕ) (row : Row) → AreBlocks blocks → IsPart begun (last_table None blocks) rows table place
+    → IsOpenAs begun k how → line ≢ last_line → ReadsRow line (Some row)
+    → ((o : Opened) → IsOpen o (last_table None blocks) rows table place → o.kind ≡ k → o.outcome ≡ how → NoRow (last_table None blocks) (opened_block o rows) row) → Refused (changes_lines blocks ++ open_lines begun rows) line
+row_bad None blocks rows table place k how line row are part opens ne read never = absurd opens
+row_bad (Some o) blocks rows table place k how line row are part opens ne read never = row_refused blocks (opened_block o rows) line row are part.block ne read (never o part opens.0 opens.1)
+
+changing_as : (k : Kind) (o : Opened) (blocks : List Block) (rows table : List Row) (place : ℕ) (row : Row) → AreBlocks blocks → IsOpen o (last_table None blocks) rows table place → o.kind ≡ k → next_id rows ≤ row.id → IsChanging k table place row
+changing_as kind.Full o blocks rows table place row are is e le = tt
+changing_as kind.Change o blocks rows table place row are is e le =
+    let keeps = subst (λ (k : Kind). KeepsTable k (last_table None blocks) rows table place) e is.keeps in (
+      kept_rises blocks o rows table place are e is,
+      All-weaker (λ (r : Row). r.id < next_id rows) (λ (r : Row). r.id < row.id) (λ r h. omega (arith, h, le)) (take place table) keeps.2,
+    )
+
+pub changing : (begun : Option Opened) (blocks : List Block) (rows table : List Row) (place : ℕ) (k : Kind) (how : Outcome) (row : Row) → AreBlocks blocks → IsPart begun (last_table None blocks) rows table place
+    → IsOpenAs begun k how → next_id rows ≤ row.id → IsChanging k table place row
+changing None blocks rows table place k how row are part opens le = absurd opens
+changing (Some o) blocks rows table place k how row are part opens le = changing_as k o blocks rows table place row are part opens.0 le
+
+place_as : (k : Kind) (before : Option Block) (rows table : List Row) (place : ℕ) → KeepsTable k before rows table place → place ≤ length table
+place_as kind.Full before rows table place keeps = keeps
+place_as kind.Change before rows table place keeps = keeps.1
+
+pub place_within : (begun : Option Opened) (before : Option Block) (rows table : List Row) (place : ℕ) (k : Kind) (how : Outcome) → IsPart begun before rows table place → IsOpenAs begun k how → place ≤ length table
+place_within None before rows table place k how part opens = absurd opens
+place_within (Some o) before rows table place k how part opens = place_as o.kind before rows table place part.keeps
+
+-- a row that was taken: what is open then, and the lines so far
+pub row_goes_on : (begun : Option Opened) (blocks : List Block) (rows table after : List Row) (place next : ℕ) (k : Kind) (how : Outcome) (row : Row) → IsPart begun (last_table None blocks) rows table place
+    → IsOpenAs begun k how → IsRow row → next_id rows ≤ row.id → has_rows how ≡ true → Brings k table place row after (Some next) → IsPart begun (last_table None blocks) (rows ++ row ∷ []) after next
+row_goes_on None blocks rows table after place next k how row part opens good le has brings = absurd opens
+row_goes_on (Some o) blocks rows table after place next k how row part opens good le has brings =
+    row_taken (last_table None blocks) o row rows table after place next part good le (subst (λ (p : Outcome). has_rows p ≡ true) (sym opens.1) has)
+    (subst (λ (l : Kind). Brings l table place row after (Some next)) (sym opens.0) brings)
+
+pub row_adds : (begun : Option Opened) (blocks : List Block) (rows : List Row) (k : Kind) (how : Outcome) (row : Row) (line : List ℕ) → IsOpenAs begun k how → line ≡ row_line row
+    → changes_lines blocks ++ open_lines begun (rows ++ row ∷ []) ≡ (changes_lines blocks ++ open_lines begun rows) ++ line ∷ []
+row_adds None blocks rows k how row line opens e = absurd opens
+row_adds (Some o) blocks rows k how row line opens e = row_lines blocks o rows row line e
+
+-- ---- a reader whose block ends
+
+settled_is : (k : Kind) (before : Option Block) (rows table : List Row) (place : ℕ) → KeepsTable k before rows table place → settled k table rows ≡ rows_after k before rows
+settled_is kind.Full before rows table place keeps = refl
+settled_is kind.Change before rows table place keeps = keeps.0
+
+module _ (blocks now : List Block) (o : Opened) (rows left table after : List Row) (place : ℕ) (begun : Option Opened) (are : AreBlocks blocks) (is : IsOpen o (last_table None blocks) rows table place) (shut : begun ≡ None)
+    (now_is : now ≡ blocks ++ opened_block o rows ∷ []) (left_is : left ≡ []) (after_is : after ≡ settled o.kind table rows) where
+  pub closed_are : AreBlocks now
+  closed_are = subst (λ (bs : List Block). AreBlocks bs) (sym now_is) (are_push None blocks (opened_block o rows) are is.block is.follows)
+
+  pub closed_outcome : Some o.outcome ≡ last_outcome (last_table None now)
+  closed_outcome = closed_last blocks (opened_block o rows) ∙ ap (λ (bs : List Block). last_outcome (last_table None bs)) (sym now_is)
+
+  pub closed_low : 0 ≡ next_id left
+  closed_low = ap next_id (sym left_is)
+
+  pub closed_part : IsPart begun (last_table None now) left after 0
+  closed_part =
+      subst (λ (x : Option Opened). IsPart x (last_table None now) left after 0) (sym shut)
+      (subst (λ (bs : List Block). IsShut (last_table None bs) left after 0) (sym now_is)
+      (closed blocks (opened_block o rows) left after 0 left_is refl (after_is ∙ settled_is o.kind (last_table None blocks) rows table place is.keeps)))
+
+  pub closed_so_far : changes_lines now ++ open_lines begun left ≡ (changes_lines blocks ++ front_lines (opened_block o rows)) ++ last_line ∷ []
+  closed_so_far =
+      ap (λ (bs : List Block). changes_lines bs ++ open_lines begun left) now_is
+      ∙ ap (λ (x : Option Opened). changes_lines (blocks ++ opened_block o rows ∷ []) ++ open_lines x left) shut
+      ∙ closed_lines blocks (opened_block o rows)

@@ -1,8 +1,12 @@
 -- The text of a block, and the rows that differ.
-use Rattle.std.proofs.Common.{◌≡◌, ◌∙◌, ℕ, zero, suc, ◌+◌, ◌<◌, ◌≤◌, Bool, true, false, not, cond, List, [], ◌∷◌, ◌++◌, length, take, drop, map, filter, flat_map, get_or, codes, Option, Some, None, refl, sym, ap, ap₂, subst, arith, append_assoc, append-nil, decimal, take-append-drop}
+use Rattle.std.proofs.Common.{◌≡◌, ◌∙◌, ℕ, zero, suc, ◌+◌, ◌<◌, ◌≤◌, Bool, true, false, not, cond, List, [], ◌∷◌, ◌++◌, length, take, drop, map, filter, flat_map, get_or, codes, Option, Some, None, refl, sym, ap, ap₂, subst, arith, append_assoc, append-nil, decimal, take-append-drop, ◌≢◌, ◌&&◌, MatchBool, true≢false, if◌then◌else◌, option_copied, slice_get}
 use Rattle.std.proofs.lemmas.List.{drop_more, map-append, take-take}
 use Rattle.std.proofs.lemmas.List.Concat.{flat_map-append}
 use Rattle.std.proofs.lemmas.List.Elements.{filter_more}
+use denote.Ref.{Bor}
+use Rattle.std.proofs.lemmas.Option.{get_or_from_slice_get}
+use Rattle.vertex_lang.specs.Lone.{same_value}
+use Rattle.vertex_lang.specs.GatherLaws.{values-exact}
 use Rattle.graph_model.specs.GraphData.{GraphData, id_of, nodes_by_id}
 use Rattle.graph_model.specs.declared.number.NodeNo.{NodeNo}
 use Rattle.graph_model.specs.declared.value.Val.{Val}
@@ -71,7 +75,36 @@ pub change_is : (head : List ℕ) (graph : GraphData) (before table : Table) →
     → block_text (record { kind = kind.Change; head = drop 5 head; outcome = table.outcome; rows = changed_rows graph before.values table.values }) ≡ block_text (block_of head graph (Some before) table)
 change_is head graph before table e = ap block_text (as_change (kind_behind (Some before) table) head graph before table e)
 
+pub full_alone : (head : List ℕ) (graph : GraphData) (before : Option (Bor Table)) (table : Table) → IsTableHead head → before ≡ None → table_text head graph table ≡ block_text (block_of head graph (option_copied before) table)
+full_alone head graph None table is e = full_is head graph None table is refl
+full_alone head graph (Some before) table is e = absurd cc
+
+pub not_before : (x y : Bool) → x ≡ false → (if x && y then kind.Change else kind.Full) ≡ kind.Full
+not_before true y e = absurd cc
+not_before false y e = refl
+
+pub not_now : (x y : Bool) → y ≡ false → (if x && y then kind.Change else kind.Full) ≡ kind.Full
+not_now true y e = ap (λ (b : Bool). if b then kind.Change else kind.Full) e
+not_now false y e = refl
+
+pub both_shown : (x y : Bool) → x ≡ true → y ≡ true → (if x && y then kind.Change else kind.Full) ≡ kind.Change
+both_shown true y e f = ap (λ (b : Bool). if b then kind.Change else kind.Full) f
+both_shown false y e f = absurd cc
+
 -- ---- the rows that differ, one node more
+
+unlike : (b : Bool) (x y : Val) (same : Bool) → same_value x y ≡ same → MatchBool b (x ≢ y) (x ≡ y) → b ≡ not same
+unlike true x y true e m = absurd (m (values-exact.one x y e))
+unlike true x y false e m = refl
+unlike false x y true e m = refl
+unlike false x y false e m = absurd (true≢false (sym (subst (λ (z : Val). same_value x z ≡ true) m (values-exact.itself x)) ∙ e))
+
+pub other_is : (b : Bool) (x y : Val) → MatchBool b (x ≢ y) (x ≡ y) → b ≡ not (same_value x y)
+other_is b x y m = unlike b x y (same_value x y) refl m
+
+map_if : (f : NodeNo → Row) (b : Bool) (n : NodeNo) → map f (cond b (n ∷ []) []) ≡ cond b (f n ∷ []) []
+map_if f true n = refl
+map_if f false n = refl
 
 module _ (graph : GraphData) (before values : List Val) where
   abbrev pub rows_upto : ℕ → List Row
@@ -82,6 +115,13 @@ module _ (graph : GraphData) (before values : List Val) where
       ap (map (row_of graph values)) (filter_more (is_changed before values) (nodes_by_id graph.ids) place n lt)
       ∙ map-append (row_of graph values) (filter (is_changed before values) (take place (nodes_by_id graph.ids))) (cond (is_changed before values (get_or (nodes_by_id graph.ids) place n)) (get_or (nodes_by_id graph.ids) place n ∷ []) [])
       ∙ ap (λ (m : NodeNo). map (row_of graph values) (filter (is_changed before values) (take place (nodes_by_id graph.ids))) ++ map (row_of graph values) (cond (is_changed before values m) (m ∷ []) [])) (sym is)
+
+  -- the row of the node at a place, where it differs
+  pub one_row : (place : ℕ) (n : NodeNo) (rows : List Row) → place < length (nodes_by_id graph.ids) → slice_get (nodes_by_id graph.ids) place ≡ Some n → rows ≡ rows_upto place
+      → rows ++ (if is_changed before values n then row_of graph values n ∷ [] else []) ≡ rows_upto (place + 1)
+  one_row place n rows lt at so_far =
+      ap (λ (rs : List Row). rs ++ (if is_changed before values n then row_of graph values n ∷ [] else [])) so_far
+      ∙ sym (grown place n lt (sym (get_or_from_slice_get (nodes_by_id graph.ids) place n n at)) ∙ ap (λ (rs : List Row). rows_upto place ++ rs) (map_if (row_of graph values) (is_changed before values n) n))
 
 -- ---- the lines of rows
 

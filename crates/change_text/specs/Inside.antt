@@ -208,6 +208,11 @@ Brings kind.Full table place row after None = ⊥
 Brings kind.Full table place row after (Some next) = next ≤ length after
 Brings kind.Change table place row after result = PutsRow table row after result
 
+-- the table that is kept where a block ends
+abbrev pub settled : Kind → List Row → List Row → List Row
+settled kind.Full table rows = rows
+settled kind.Change table rows = table
+
 -- ---- replays
 
 abbrev pub RisesIn : Option Block → Type 0

@@ -10,8 +10,8 @@ use graph_model::Val;
 use itoa::write_digits;
 use surge_outside::NoMemory;
 
-// Lays the digits of a number out before a place, and tells where they begin: at most 20 bytes before it.
-fn lay_digits(room: &mut [u8], end: usize, number: u64) -> usize
+/// Lays the digits of a number out before a place, and tells where they begin: at most 20 bytes before it.
+pub(crate) fn lay_digits(room: &mut [u8], end: usize, number: u64) -> usize
     requires long { 20 ≤ end }
     requires in_room { end ≤ length room.old }
     ensures size { length room.new ≡ length room.old }

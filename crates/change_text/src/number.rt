@@ -52,11 +52,13 @@ fn behind_minus(digits: &[u8]) -> Option<Val>
     if digits.is_empty() {
         return Some(Val::Nil);
     }
-    match number_of(digits) {
-        Some(0) => None,
-        Some(number) => Some(Val::Num(-(number as i64))),
-        None => None,
+    let Some(number) = number_of(digits) else {
+        return None;
+    };
+    if number == 0 {
+        return None;
     }
+    Some(Val::Num(-(number as i64)))
 }
 
 /// The value that these bytes spell.

@@ -4,7 +4,7 @@ ghost use Rattle.std.specs.Prelude.{◌≡◌, ◌<◌, ◌≤◌, length, take,
 ghost use Rattle.change_text.specs.Blocks.{Differs, IsRising, put_all};
 ghost use Rattle.change_text.specs.Inside.{IsBetween, PutsRow};
 
-use crate::row::Row;
+use crate::row::{Row, differ};
 
 // Where a search for an id goes on: the first row whose id isn't below it stands from `low` up to `high`.
 #[derive(Clone, Copy)]
@@ -71,7 +71,7 @@ pub(crate) fn change_row(table: &mut [Row], from: usize, row: Row) -> Option<usi
     if table[place].id != row.id {
         return None;
     }
-    if table[place].value == row.value {
+    if !differ(table[place].value, row.value) {
         return None;
     }
     table[place] = row;

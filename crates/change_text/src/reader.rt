@@ -3,7 +3,7 @@
 ghost use Rattle.std.specs.Prelude.{◌≡◌, ◌≢◌, ◌<◌, ◌≤◌, [], None, true, length, take, All, IfOk, OnOk, is_some};
 ghost use Rattle.change_text.specs.Blocks.{IsLine, IsRising};
 ghost use Rattle.change_text.specs.Spelling.{last_line};
-ghost use Rattle.change_text.specs.Inside.{Brings, IsChanging, IsOpenAs, IsReader, Takes, has_rows, lines_so_far, may_change, may_stand};
+ghost use Rattle.change_text.specs.Inside.{Brings, IsChanging, IsOpenAs, IsReader, Takes, has_rows, lines_so_far, may_change, may_stand, settled};
 
 use crate::flat::Flat;
 use crate::kind::Kind;
@@ -83,6 +83,20 @@ fn bring(table: &mut [Row], place: usize, kind: Kind, row: Row) -> Option<usize>
     }
 }
 
+// Makes the table that is kept that of a block, whose rows are these: a change has brought it up to date already.
+fn settle(table: &mut Vec<Row>, kind: Kind, rows: &[Row]) -> Result<(), NoMemory>
+    ensures { OnOk result (table.new.items ≡ settled kind table.old.items rows.now) }
+{
+    match kind {
+        Kind::Full => {
+            table.clear();
+            table.extend_from_slice(rows)?;
+            Ok(())
+        }
+        Kind::Change => Ok(()),
+    }
+}
+
 impl Reader {
     /// Nothing was read.
     pub(crate) fn new(alloc: Global) -> Reader
@@ -153,13 +167,7 @@ impl Reader {
         requires shut { self.old.begun ≡ None }
         ensures { OnOk result (Takes (record self.old { begun = Some opened }) last_line self.new true) }
     {
-        match opened.kind {
-            Kind::Full => {
-                self.table.clear();
-                self.table.extend_from_slice(self.flat.waiting())?;
-            }
-            Kind::Change => {}
-        }
+        settle(&mut self.table, opened.kind, self.flat.waiting())?;
         self.flat
             .close(opened.kind, opened.head.as_slice(), opened.outcome)?;
         self.last = Some(opened.outcome);

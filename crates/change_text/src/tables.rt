@@ -85,7 +85,9 @@ pub fn replay<O: Sink>(alloc: Global, changes: &ChangeText, out: &mut O) -> Resu
     for end in parts.ends {
         let (head, heads_behind) = heads.split_at(end.head);
         let (own, rows_behind) = rows.split_at(end.rows);
-        advance(&mut table, end.kind, own)?;
+        if advance(&mut table, end.kind, own).is_err() {
+            return Err(ReplayStop::NoMemory);
+        }
         if let Err(trouble) = write_rows(alloc, head, end.outcome, table.as_slice(), out) {
             return Err(stop_of(trouble));
         }

@@ -6,7 +6,7 @@ ghost use Rattle.result_tables.specs.TableText.{outcome_text};
 ghost use Rattle.change_text.specs.Spelling.{block_text, word};
 
 use crate::kind::Kind;
-use crate::lay::push_rows;
+use crate::lay::{lay_digits, push_rows};
 use crate::row::Row;
 use surge_outside::NoMemory;
 use vertex_lang::Outcome;
@@ -24,7 +24,7 @@ fn push_decimal(text: &mut Vec<u8>, number: u32) -> Result<(), NoMemory>
     ensures { OnOk result (text.new.items ≡ text.old.items ++ decimal number) }
 {
     let mut room = [0u8; 20];
-    let start = itoa::write_digits(u64::from(number), &mut room, 20);
+    let start = lay_digits(&mut room, 20, u64::from(number));
     text.extend_from_slice(&room[start..])?;
     Ok(())
 }

@@ -1,6 +1,8 @@
 //! Writes tables as blocks of a change text.
 
-ghost use Rattle.std.specs.Prelude.{◌≡◌, ◌≤◌, length, Some, IfOk, OnOk, OnErr, option_copied};
+ghost use Rattle.std.specs.Prelude.{◌≡◌, ◌++◌, ◌<◌, ◌≤◌, [], ◌∷◌, length, not, if◌then◌else◌, Some, IfOk, OnOk, OnErr, option_copied};
+ghost use Rattle.graph_model.specs.GraphData.{id_of};
+ghost use Rattle.vertex_lang.specs.Lone.{same_value};
 ghost use Rattle.surge_outside.specs.Counts.{HasRisen};
 ghost use Rattle.surge_outside.specs.Written.{GrewByFront, appended};
 ghost use Rattle.result_tables.specs.TableText.{IsTable};
@@ -9,9 +11,9 @@ ghost use Rattle.change_text.specs.Writing.{IsTableBefore, IsTableHead, block_of
 ghost use Rattle.change_text.specs.Inside.{change_of};
 
 use crate::kind::Kind;
-use crate::row::Row;
+use crate::row::{Row, differ};
 use crate::text::{Frame, push_block};
-use graph_model::{Graph, Val};
+use graph_model::{Graph, NodeNo, Val};
 use result_tables::{Form, Table, write_table};
 use std::alloc::Global;
 use surge_outside::{NoMemory, Sink, Trouble, put_all};
@@ -28,6 +30,32 @@ fn is_shown(outcome: Outcome) -> bool
     }
 }
 
+// Whether a value is another than before.
+fn is_other(before: Val, value: Val) -> bool
+    ensures { result ≡ not (same_value before value) }
+{
+    differ(before, value)
+}
+
+// Adds the row of a node, where its value is another than before.
+fn push_changed(
+    rows: &mut Vec<Row>,
+    graph: &Graph,
+    node: NodeNo,
+    before: Val,
+    value: Val,
+) -> Result<(), NoMemory>
+    requires { node.0 < length graph.now.ids }
+    ensures { OnOk result (rows.new.items ≡ rows.old.items ++ (if not (same_value before value) then record { id = id_of graph.now node.0; value = value } ∷ [] else [])) }
+{
+    if is_other(before, value) {
+        let id = graph.id(node);
+        rows.push(Row { id, value })?;
+        return Ok(());
+    }
+    Ok(())
+}
+
 // The rows of the nodes whose values differ, by rising id.
 fn rows_that_differ(
     alloc: Global,
@@ -42,13 +70,8 @@ fn rows_that_differ(
     let mut rows = Vec::new(alloc);
     for place in 0..graph.node_count() {
         let node = graph.by_id(place);
-        let value = values[node.0 as usize];
-        if before[node.0 as usize] != value {
-            rows.push(Row {
-                id: graph.id(node),
-                value,
-            })?;
-        }
+        let old = before[node.0 as usize];
+        push_changed(&mut rows, graph, node, old, values[node.0 as usize])?;
     }
     Ok(rows)
 }
