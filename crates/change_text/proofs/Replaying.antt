@@ -1,8 +1,9 @@
 -- The tables of blocks, written one after the other.
-use Rattle.std.proofs.Common.{◌≡◌, ◌∙◌, ℕ, zero, suc, ◌+◌, ◌<◌, ◌≤◌, List, [], ◌∷◌, ◌++◌, length, take, drop, Option, Some, None, All, refl, sym, ap, subst, arith, append_assoc, append-nil, length-append}
+use Rattle.std.proofs.Common.{◌≡◌, ◌∙◌, ℕ, zero, suc, ◌+◌, ◌<◌, ◌≤◌, List, [], ◌∷◌, ◌++◌, length, take, drop, Option, Some, None, All, refl, sym, ap, subst, arith, append_assoc, append-nil, length-append, Result, Ok, Err, OnOk, is_ok, true}
 use Rattle.std.proofs.lemmas.List.{take-append-le}
 use Rattle.std.proofs.Math.Seq.{take-append-add}
 use Rattle.std.proofs.lemmas.List.Elements.{All-head, All-tail, All-nil}
+use Rattle.surge_outside.specs.declared.no_memory.NoMemory.{NoMemory}
 use Rattle.surge_outside.specs.Written.{GrewByFront, appended}
 use Rattle.change_text.specs.declared.kind.Kind.{Kind}
 use Rattle.change_text.specs.declared.kind.Kind.TheVariants as kind
@@ -85,6 +86,14 @@ module _ (all left more : List Block) (b : Block) (text : List ℕ) (rows : List
       are = are_now.2;
       whole = whole_now ∙ sym (append_assoc text (block_text (full b.head b.outcome table)) (changes_text (tables_from (Some (table_of s.before b)) more)));
     }
+
+    pub piece : (old mid new : Option (List ℕ)) → mid ≡ appended old text → GrewByFront mid new (block_text (full b.head b.outcome table)) → GrewByFront old new (tables_text all)
+    piece old mid new so_far grew =
+        front_behind old mid new text (block_text (full b.head b.outcome table)) (changes_text (tables_from (Some (table_of s.before b)) more)) (tables_text all) whole_now so_far grew
+
+pub when_ok : (r : Result (Unit {0}) NoMemory) (P : Type 0) → OnOk r P → is_ok r ≡ true → P
+when_ok (Ok x) P h e = h
+when_ok (Err x) P h e = absurd cc
 
 -- where nothing is left, all was written
 pub all_written : (all left : List Block) (text : List ℕ) (rows : List Row) → Stands all left text rows → left ≡ [] → tables_text all ≡ text

@@ -1,5 +1,6 @@
 -- A row more, or none.
 use Rattle.std.proofs.Common.{◌≡◌, ◌∙◌, ◌++◌, [], ◌∷◌, List, length, Option, Some, None, ap, sym, subst, arith}
+use Rattle.std.specs.Vec.{with_items}
 use Rattle.std.proofs.lemmas.List.{with_items_is}
 use Rattle.change_text.specs.declared.row.Row.{Row}
 use Rattle.change_text.specs.declared.kind.Kind.{Kind}
@@ -50,7 +51,8 @@ returns c =
     let row = c.in-Some.row in
     let blocks : c.push.new.self.blocks ≡ r.flat.blocks = c.in_ok-push.ensures.blocks in
     let rows : c.push.new.self.rows ≡ r.flat.rows ++ row ∷ [] = c.in_ok-push.ensures.rows in
-    let items = with_items_is r.table c.bring.new.table (c.bring.auto.table ∙ ap (λ (rs : List Row). length rs) c.deref_mut.ensures.value ∙ sym r.table.ok.0) in
+    let after : List Row = (with_items r.table c.bring.new.table).items in
+    let items : after ≡ c.bring.new.table = with_items_is r.table c.bring.new.table (c.bring.auto.table ∙ ap (λ (rs : List Row). length rs) c.deref_mut.ensures.value ∙ sym r.table.ok.0) in
     let part =
     row_goes_on r.begun r.flat.blocks r.flat.rows r.table.items c.bring.new.table r.place c.in-Some-bring.place c.args.kind c.args.outcome row c.requires.reader.part c.requires.begun c.in-Some.ensures.0
     (omega (arith, c.if-row-self.false, c.requires.reader.low)) (sym c.if-not-has_rows.ensures)
@@ -60,8 +62,8 @@ returns c =
         are = subst (λ (bs : List Block). AreBlocks bs) (sym blocks) c.requires.reader.are;
         last = c.requires.reader.last ∙ ap (λ (bs : List Block). last_outcome (last_table None bs)) (sym blocks);
         low = sym (ap (λ (rs : List Row). next_id rs) rows ∙ next_push r.flat.rows row);
-        part = subst (λ (bs : List Block). IsPart r.begun (last_table None bs) c.push.new.self.rows _ c.in-Some-bring.place) (sym blocks)
-            (subst (λ (rs : List Row). IsPart r.begun (last_table None r.flat.blocks) rs _ c.in-Some-bring.place) (sym rows)
+        part = subst (λ (bs : List Block). IsPart r.begun (last_table None bs) c.push.new.self.rows after c.in-Some-bring.place) (sym blocks)
+            (subst (λ (rs : List Row). IsPart r.begun (last_table None r.flat.blocks) rs after c.in-Some-bring.place) (sym rows)
             (subst (λ (rs : List Row). IsPart r.begun (last_table None r.flat.blocks) (r.flat.rows ++ row ∷ []) rs c.in-Some-bring.place) (sym items) part));
       },
       ap (λ (bs : List Block). changes_lines bs ++ open_lines r.begun c.push.new.self.rows) blocks ∙ ap (λ (rs : List Row). changes_lines r.flat.blocks ++ open_lines r.begun rs) rows
