@@ -1,21 +1,19 @@
 -- Lists of blocks: their lines are read in one way, and one more block.
-use Rattle.std.proofs.Common.{◌≡◌, ◌≢◌, ◌∙◌, ◌⊎◌, ℕ, zero, suc, ◌+◌, ◌<◌, ◌≤◌, List, [], ◌∷◌, ◌++◌, length, take, drop, map, flat_map, Option, Some, None, All, refl, sym, ap, ap₂, subst, arith, inl, inr, append_assoc, append-nil, length-append, take_all}
-use Rattle.std.proofs.lemmas.List.{append_cancel_left, map-append}
+use Rattle.std.proofs.Common.{◌≡◌, ◌∙◌, ◌⊎◌, ℕ, ◌+◌, List, [], ◌∷◌, ◌++◌, length, map, Option, Some, None, All, refl, sym, ap, subst, arith, inl, inr, append_assoc, append-nil, length-append}
 use Rattle.std.proofs.lemmas.List.Concat.{flat_map-append}
-use Rattle.std.proofs.lemmas.List.Elements.{All-append, All-cons, All-head, All-nil, All-tail}
-use Rattle.graph_model.specs.declared.value.Val.{Val}
+use Rattle.std.proofs.lemmas.List.Elements.{All-append, All-head, All-nil, All-tail}
 use Rattle.vertex_lang.specs.declared.lone.Outcome.{Outcome}
 use Rattle.result_tables.specs.TableText.{line_end}
 use Rattle.change_text.specs.declared.kind.Kind.{Kind}
 use Rattle.change_text.specs.declared.kind.Kind.TheVariants as kind
 use Rattle.change_text.specs.declared.row.Row.{Row}
-use Rattle.change_text.specs.Blocks.{Block, AreBlocks, AreFrom, Follows, FollowsAs, IsBlock, IsLine, IsRising, IsRow, rows_after, table_of, tables_from}
+use Rattle.change_text.specs.Blocks.{Block, AreFrom, Follows, IsBlock, IsLine, IsRising, IsRow, rows_after, table_of}
 use Rattle.change_text.specs.Spelling.{block_lines, changes_lines, changes_text, ended, front_lines, last_line, opening_line, row_line}
 use Rattle.change_text.specs.Reading.{IsChanges}
 use Rattle.change_text.specs.Inside.{RisesIn, last_rows, last_table}
-use Rattle.change_text.proofs.Split.{first_split, has, lacks_back, lacks_same, same_cons, same_head, same_tail}
+use Rattle.change_text.proofs.Split.{first_split, same_cons, same_head, same_tail}
 use Rattle.change_text.proofs.Lines.{block_are_lines, row_not_last, same_opening, same_row_line}
-use Rattle.change_text.proofs.Rows.{all_middle, rising_put_all}
+use Rattle.change_text.proofs.Rows.{rising_put_all}
 
 -- ---- lines, each with the byte that ends it
 

@@ -1,5 +1,5 @@
 -- Blocks in memory: one more row that waits, one more block, one block after the other.
-use Rattle.std.proofs.Common.{◌≡◌, ◌∙◌, ℕ, zero, suc, ◌+◌, ◌-◌, ◌<◌, ◌≤◌, List, [], ◌∷◌, ◌++◌, length, take, drop, refl, sym, ap, ap₂, subst, arith, append-nil, length-append, length-drop, drop-cons, get_or, Bool, true, if◌then◌else◌}
+use Rattle.std.proofs.Common.{◌≡◌, ◌∙◌, ℕ, ◌+◌, ◌-◌, ◌<◌, ◌≤◌, List, [], ◌∷◌, ◌++◌, length, take, drop, refl, sym, ap, ap₂, subst, arith, length-append, length-drop, get_or, Bool, true, if◌then◌else◌}
 use Rattle.std.proofs.lemmas.List.{drop-append-le, drop-drop, drop_all, drop_more, length_push, take-append-le, take_all}
 use Rattle.vertex_lang.specs.declared.lone.Outcome.TheVariants as outcome
 use Rattle.change_text.specs.declared.flat.End.{End}
@@ -26,9 +26,9 @@ left_more (e ∷ es) heads rows more are = ap (rows_left es) (drop-append-le e.r
 pub are_more : (es : List End) (heads : List ℕ) (rows more : List Row) → AreEnds es heads rows → AreEnds es heads (rows ++ more)
 are_more [] heads rows more are = are
 are_more (e ∷ es) heads rows more are = (
-    are.0,
-    omega (arith, are.1, length-append rows more),
-    subst (λ (rs : List Row). AreEnds es (drop e.head heads) rs) (sym (drop-append-le e.rows rows more are.1)) (are_more es (drop e.head heads) (drop e.rows rows) more are.2),
+  are.0,
+  omega (arith, are.1, length-append rows more),
+  subst (λ (rs : List Row). AreEnds es (drop e.head heads) rs) (sym (drop-append-le e.rows rows more are.1)) (are_more es (drop e.head heads) (drop e.rows rows) more are.2),
 )
 
 pub left_push : (es : List End) (heads : List ℕ) (rows : List Row) (row : Row) (n : ℕ) → AreEnds es heads rows → length (rows_left es rows) ≡ n → length (rows_left es (rows ++ row ∷ [])) ≡ n + 1
@@ -64,14 +64,14 @@ module _ (e : End) (head : List ℕ) (fits : e.head ≡ length head) where
 
   pub are_push : (es : List End) (heads : List ℕ) (rows : List Row) → AreEnds es heads rows → e.rows ≡ length (rows_left es rows) → AreEnds (es ++ e ∷ []) (heads ++ head) rows
   are_push [] heads rows are is = (
-      omega (arith, fits, length-append heads head),
-      omega (arith, is),
-      drop_all e.head (heads ++ head) (omega (arith, fits, length-append heads head, ap (λ (hs : List ℕ). length hs) are)),
+    omega (arith, fits, length-append heads head),
+    omega (arith, is),
+    drop_all e.head (heads ++ head) (omega (arith, fits, length-append heads head, ap (λ (hs : List ℕ). length hs) are)),
   )
   are_push (d ∷ es) heads rows are is = (
-      omega (arith, are.0, length-append heads head),
-      are.1,
-      subst (λ (hs : List ℕ). AreEnds (es ++ e ∷ []) hs (drop d.rows rows)) (sym (drop-append-le d.head heads head are.0)) (are_push es (drop d.head heads) (drop d.rows rows) are.2 is),
+    omega (arith, are.0, length-append heads head),
+    are.1,
+    subst (λ (hs : List ℕ). AreEnds (es ++ e ∷ []) hs (drop d.rows rows)) (sym (drop-append-le d.head heads head are.0)) (are_push es (drop d.head heads) (drop d.rows rows) are.2 is),
   )
 
   pub none_left : (es : List End) (heads : List ℕ) (rows : List Row) → e.rows ≡ length (rows_left es rows) → rows_left (es ++ e ∷ []) rows ≡ []

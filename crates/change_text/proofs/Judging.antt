@@ -1,17 +1,17 @@
 -- A text is judged by the lines that were read of it and what is left.
-use Rattle.std.proofs.Common.{◌≡◌, ◌≢◌, ◌∙◌, ℕ, zero, suc, ◌+◌, ◌-◌, ◌<◌, ◌≤◌, List, [], ◌∷◌, ◌++◌, length, take, drop, map, Option, Some, None, All, refl, sym, ap, subst, arith, append_assoc, append-nil, length-append, take_all, take_at, take-append-drop, is_some, true}
+use Rattle.std.proofs.Common.{◌≡◌, ◌∙◌, ℕ, ◌+◌, ◌-◌, ◌<◌, List, [], ◌∷◌, ◌++◌, length, take, drop, map, Option, Some, None, All, refl, sym, ap, subst, arith, append_assoc, append-nil, length-append, take_at, take-append-drop, is_some, true}
 use Rattle.std.proofs.lemmas.List.{length-take-le}
 use Rattle.std.proofs.lemmas.List.Elements.{All-append, All-take, All-nil}
 use Rattle.change_text.specs.declared.reader.Opened.{Opened}
 use Rattle.change_text.specs.declared.reader.Reader.{Reader}
 use Rattle.change_text.specs.declared.row.Row.{Row}
-use Rattle.change_text.specs.Blocks.{Block, AreBlocks, AreFrom, IsBlock, IsLine, table_of}
-use Rattle.change_text.specs.Spelling.{block_lines, changes_lines, changes_text, ended, front_lines, last_line, row_line}
+use Rattle.change_text.specs.Blocks.{Block, AreBlocks, AreFrom, IsBlock, IsLine}
+use Rattle.change_text.specs.Spelling.{changes_lines, ended, front_lines, last_line, row_line}
 use Rattle.change_text.specs.Reading.{Begins, IsBadLine, IsChanges}
-use Rattle.change_text.specs.Inside.{IsCutAt, IsOpen, IsPart, IsReader, Refused, last_table, lines_so_far, open_lines, opened_block}
+use Rattle.change_text.specs.Inside.{IsCutAt, IsPart, IsReader, Refused, last_table, lines_so_far, open_lines, opened_block}
 use Rattle.change_text.proofs.Split.{first_split, has, same_tail}
 use Rattle.change_text.proofs.Lines.{fronts_are_lines}
-use Rattle.change_text.proofs.Blocks.{Further, GoesOn, OneMore, are_lines, are_push, blocks_front, ended-append, ended_front, lines_push, no_end, one_more}
+use Rattle.change_text.proofs.Blocks.{are_lines, are_push, blocks_front, ended-append, ended_front, lines_push, no_end, one_more}
 
 -- lines that some change text begins with
 begins_from : (lines left : List (List ℕ)) (blocks : List Block) (text rest : List ℕ) → AreBlocks blocks → changes_lines blocks ≡ lines ++ left → text ≡ ended lines ++ rest → Begins (length lines) text

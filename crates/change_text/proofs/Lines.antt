@@ -1,21 +1,21 @@
 -- Lines of blocks: each says one thing, none holds the byte that ends it.
-use Rattle.std.proofs.Common.{◌≡◌, ◌≢◌, ◌∙◌, ◌⊎◌, ℕ, zero, suc, ◌+◌, ◌<◌, ◌≤◌, ◌^◌, Bool, true, false, List, [], ◌∷◌, ◌++◌, length, take, drop, map, get_or, codes, Option, Some, None, All, refl, sym, ap, ap₂, subst, arith, inl, inr, append_assoc, decimal, length-append}
+use Rattle.std.proofs.Common.{◌≡◌, ◌≢◌, ◌∙◌, ℕ, ◌<◌, ◌^◌, List, [], ◌∷◌, ◌++◌, length, map, get_or, codes, Option, Some, None, All, refl, sym, ap, ap₂, arith, append_assoc, decimal}
 use Rattle.std.proofs.lemmas.List.{append_cancel_left}
-use Rattle.std.proofs.lemmas.Fmt.{decimal_injective, decimal_nonempty}
-use Rattle.std.proofs.lemmas.List.Elements.{All-append, All-cons, All-head, All-map, All-nil, All-tail}
+use Rattle.std.proofs.lemmas.Fmt.{decimal_injective}
+use Rattle.std.proofs.lemmas.List.Elements.{All-append, All-cons, All-head, All-nil, All-tail}
 use denote.Ref.{Bor}
 use Rattle.std.specs.Int.{IsInRange}
 use Rattle.graph_model.specs.declared.value.Val.{Val}
 use Rattle.vertex_lang.specs.declared.lone.Outcome.{Outcome}
 use Rattle.vertex_lang.specs.declared.lone.Outcome.TheVariants as outcome
-use Rattle.result_tables.specs.TableText.{line_end, outcome_text, value_text}
+use Rattle.result_tables.specs.TableText.{outcome_text, value_text}
 use Rattle.change_text.specs.declared.kind.Kind.{Kind}
 use Rattle.change_text.specs.declared.kind.Kind.TheVariants as kind
 use Rattle.change_text.specs.declared.row.Row.{Row}
 use Rattle.change_text.specs.Blocks.{Block, IsBlock, IsHead, IsLine, IsOutcome, IsRow}
 use Rattle.change_text.specs.Spelling.{front_lines, block_lines, last_line, opening_line, row_line, word}
 use Rattle.change_text.specs.Inside.{Lacks, IsCutAt, IsCutLast, Opens, ReadsNumber, ReadsValue, ReadsRow, ReadsRounds, ReadsShown, ReadsSaid, held_said, said}
-use Rattle.change_text.proofs.Split.{first_split, has, lacks_append, lacks_back, lacks_by_test, lacks_cons, lacks_front, lacks_nil, lacks_same, lacks_tail, last_split, same_head, same_tail}
+use Rattle.change_text.proofs.Split.{first_split, has, lacks_append, lacks_back, lacks_by_test, lacks_cons, lacks_front, lacks_same, last_split, same_head}
 use Rattle.change_text.proofs.Numbers.{lacks_in, lacks_value, same_value_text}
 
 not_comma : IsInRange 48 57 44 → ⊥
@@ -71,8 +71,8 @@ no_value line front behind cut never row is e = never row.value is.1 (row_cut li
 pub row_read : (line front behind : List ℕ) (id : ℕ) (value : Val) → IsCutAt 44 line front behind → ReadsNumber front (Some id) → ReadsValue behind (Some value)
     → ReadsRow line (Some (record { id = id; value = value }))
 row_read line front behind id value cut p q = (
-    (p.0, q.0),
-    cut.split ∙ ap₂ (λ (a b : List ℕ). a ++ 44 ∷ b) p.1 q.1,
+  (p.0, q.0),
+  cut.split ∙ ap₂ (λ (a b : List ℕ). a ++ 44 ∷ b) p.1 q.1,
 )
 
 -- ---- first lines
@@ -109,32 +109,32 @@ no_blank bytes lacks head outcome is e = has 32 head (outcome_text outcome) byte
 
 pub no_rounds : (bytes front last : List ℕ) → IsCutLast 32 bytes front last → ReadsRounds last None → ReadsShown bytes None
 no_rounds bytes front last cut never head r low = (
-    λ e. never r low (digits_cut r bytes head (codes "settled") front last low cut (e ∙ settled_said head r)).1,
-    λ e. never r low (digits_cut r bytes head (codes "after") front last low cut (e ∙ after_said head r)).1,
+  λ e. never r low (digits_cut r bytes head (codes "settled") front last low cut (e ∙ settled_said head r)).1,
+  λ e. never r low (digits_cut r bytes head (codes "after") front last low cut (e ∙ after_said head r)).1,
 )
 
 pub no_word : (bytes front last : List ℕ) → IsCutLast 32 bytes front last → Lacks 32 front → ReadsShown bytes None
 no_word bytes front last cut lacks head r low = (
-    λ e. has 32 head (codes "settled") front lacks (digits_cut r bytes head (codes "settled") front last low cut (e ∙ settled_said head r)).0,
-    λ e. has 32 head (codes "after") front lacks (digits_cut r bytes head (codes "after") front last low cut (e ∙ after_said head r)).0,
+  λ e. has 32 head (codes "settled") front lacks (digits_cut r bytes head (codes "settled") front last low cut (e ∙ settled_said head r)).0,
+  λ e. has 32 head (codes "after") front lacks (digits_cut r bytes head (codes "after") front last low cut (e ∙ after_said head r)).0,
 )
 
 pub other_word : (bytes front last head how : List ℕ) → IsCutLast 32 bytes front last → IsCutLast 32 front head how → how ≢ codes "settled" → how ≢ codes "after" → ReadsShown bytes None
 other_word bytes front last head how cut inner no_settled no_after other r low = (
-    λ e. no_settled (last_split 32 head other how (codes "settled") inner.without settled_lacks (sym inner.split ∙ (digits_cut r bytes other (codes "settled") front last low cut (e ∙ settled_said other r)).0)).1,
-    λ e. no_after (last_split 32 head other how (codes "after") inner.without after_lacks (sym inner.split ∙ (digits_cut r bytes other (codes "after") front last low cut (e ∙ after_said other r)).0)).1,
+  λ e. no_settled (last_split 32 head other how (codes "settled") inner.without settled_lacks (sym inner.split ∙ (digits_cut r bytes other (codes "settled") front last low cut (e ∙ settled_said other r)).0)).1,
+  λ e. no_after (last_split 32 head other how (codes "after") inner.without after_lacks (sym inner.split ∙ (digits_cut r bytes other (codes "after") front last low cut (e ∙ after_said other r)).0)).1,
 )
 
 pub settled_read : (bytes front last head how : List ℕ) (r : ℕ) → IsCutLast 32 bytes front last → ReadsRounds last (Some r) → IsCutLast 32 front head how → how ≡ codes "settled" → ReadsShown bytes (Some (head, outcome.Settled r))
 settled_read bytes front last head how r cut p inner is = (
-    p.0,
-    cut.split ∙ ap₂ (λ (a b : List ℕ). a ++ 32 ∷ b) (inner.split ∙ ap (λ (w : List ℕ). head ++ 32 ∷ w) is) p.1 ∙ sym (settled_said head r),
+  p.0,
+  cut.split ∙ ap₂ (λ (a b : List ℕ). a ++ 32 ∷ b) (inner.split ∙ ap (λ (w : List ℕ). head ++ 32 ∷ w) is) p.1 ∙ sym (settled_said head r),
 )
 
 pub after_read : (bytes front last head how : List ℕ) (r : ℕ) → IsCutLast 32 bytes front last → ReadsRounds last (Some r) → IsCutLast 32 front head how → how ≡ codes "after" → ReadsShown bytes (Some (head, outcome.After r))
 after_read bytes front last head how r cut p inner is = (
-    p.0,
-    cut.split ∙ ap₂ (λ (a b : List ℕ). a ++ 32 ∷ b) (inner.split ∙ ap (λ (w : List ℕ). head ++ 32 ∷ w) is) p.1 ∙ sym (after_said head r),
+  p.0,
+  cut.split ∙ ap₂ (λ (a b : List ℕ). a ++ 32 ∷ b) (inner.split ∙ ap (λ (w : List ℕ). head ++ 32 ∷ w) is) p.1 ∙ sym (after_said head r),
 )
 
 pub unsettled_read : (bytes front last : List ℕ) → IsCutLast 32 bytes front last → last ≡ codes "unsettled" → ReadsSaid bytes (Some (front, outcome.Unsettled))

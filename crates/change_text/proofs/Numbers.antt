@@ -1,12 +1,12 @@
 -- Whole numbers as they are spelled.
-use Rattle.std.proofs.Common.{◌≡◌, ◌≢◌, ◌∙◌, ℕ, zero, suc, ◌+◌, ◌-◌, ◌*◌, ◌<◌, ◌≤◌, ◌^◌, ◌&&◌, Bool, true, false, ℤ, pos, negsuc, List, [], ◌∷◌, ◌++◌, length, drop, get_or, Option, Some, None, refl, sym, ap, subst, arith, add-one, drop-cons, decimal, IfSome, IfNone}
+use Rattle.std.proofs.Common.{◌≡◌, ◌≢◌, ◌∙◌, ℕ, zero, suc, ◌+◌, ◌-◌, ◌*◌, ◌<◌, ◌≤◌, ◌^◌, ◌&&◌, Bool, true, false, ℤ, pos, negsuc, List, [], ◌∷◌, length, drop, get_or, Option, Some, None, refl, sym, ap, subst, arith, add-one, drop-cons, decimal, IfSome, IfNone}
 use Rattle.std.specs.Fmt.{signed_decimal}
 use Rattle.std.specs.Char.{digit_value, is_ascii_digit}
 use Rattle.std.specs.Int.{IsInRange}
 use Rattle.std.specs.Str.{all_ascii_digits}
 use Rattle.std.specs.Str.Parse.{digits_value, digits_value_after}
 use Rattle.std.proofs.lemmas.Bool.Decides.{nat_tests}
-use Rattle.std.proofs.lemmas.Fmt.{decimal-digits_value, decimal_digit, decimal_injective, decimal_nonempty, digits_decimal, digits_value-decimal, first_decimal, signed_decimal_injective}
+use Rattle.std.proofs.lemmas.Fmt.{decimal-digits_value, decimal_digit, decimal_injective, decimal_nonempty, digits_decimal, digits_value-decimal, first_decimal}
 use Rattle.std.proofs.lemmas.List.Elements.{All-from_get_or}
 use Rattle.std.proofs.lemmas.Str.Parse.{IsNumeralModel, not_in_digits, numerals_by_value, tells_all_ascii_digits}
 use Rattle.graph_model.specs.declared.value.Val.{Val}
@@ -14,7 +14,7 @@ use Rattle.graph_model.specs.declared.value.Val.TheVariants.{Nil, Num}
 use Rattle.result_tables.specs.TableText.{value_text}
 use Rattle.change_text.specs.Blocks.{IsValue}
 use Rattle.change_text.specs.Inside.{Lacks, ReadsNumber, ReadsRounds, ReadsValue}
-use Rattle.change_text.proofs.Split.{same_head, same_tail, lacks_cons, lacks_same}
+use Rattle.change_text.proofs.Split.{same_head, same_tail, lacks_cons}
 
 own : IsNumeralModel (λ ds. all_ascii_digits ds ≡ true) (digits_value 10)
 own = numerals_by_value (λ ds. all_ascii_digits ds ≡ true) tells_all_ascii_digits
@@ -61,8 +61,8 @@ value_step v i ds lt is_so same =
 
 pub spelled : (ds : List ℕ) (n : ℕ) → 0 < length ds → get_or ds 0 0 ≢ 48 → all_ascii_digits ds ≡ true → digits_value 10 ds ≡ n → n < 2 ^ 63 → ReadsNumber ds (Some n)
 spelled ds n some ne all is low = (
-    low,
-    sym (sym (ap decimal is) ∙ decimal-digits_value own ds all some (λ e. absurd (ne e)) (omega (arith, is, low))),
+  low,
+  sym (sym (ap decimal is) ∙ decimal-digits_value own ds all some (λ e. absurd (ne e)) (omega (arith, is, low))),
 )
 
 pub not_spelled : (ds : List ℕ) → (all_ascii_digits ds ≡ true → 2 ^ 63 ≤ digits_value 10 ds) → ReadsNumber ds None

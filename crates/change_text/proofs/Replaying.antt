@@ -1,15 +1,14 @@
 -- The tables of blocks, written one after the other.
-use Rattle.std.proofs.Common.{◌≡◌, ◌∙◌, ℕ, zero, suc, ◌+◌, ◌<◌, ◌≤◌, List, [], ◌∷◌, ◌++◌, length, take, drop, Option, Some, None, All, refl, sym, ap, subst, arith, append_assoc, append-nil, length-append, Result, Ok, Err, OnOk, is_ok, true}
+use Rattle.std.proofs.Common.{◌≡◌, ◌∙◌, ℕ, ◌+◌, List, [], ◌∷◌, ◌++◌, length, take, Option, Some, None, All, refl, sym, ap, subst, arith, append_assoc, append-nil, length-append, Result, Ok, Err, OnOk, is_ok, true}
 use Rattle.std.proofs.lemmas.List.{take-append-le}
 use Rattle.std.proofs.Math.Seq.{take-append-add}
-use Rattle.std.proofs.lemmas.List.Elements.{All-head, All-tail, All-nil}
 use Rattle.surge_outside.specs.declared.no_memory.NoMemory.{NoMemory}
 use Rattle.surge_outside.specs.Written.{GrewByFront, appended}
 use Rattle.change_text.specs.declared.kind.Kind.{Kind}
 use Rattle.change_text.specs.declared.kind.Kind.TheVariants as kind
 use Rattle.change_text.specs.declared.row.Row.{Row}
-use Rattle.change_text.specs.Blocks.{Block, AreFrom, Differs, Follows, FollowsAs, IsBlock, IsRising, put, put_all, rows_after, table_of, tables_from, tables_of}
-use Rattle.change_text.specs.Spelling.{block_text, block_lines, changes_lines, changes_text, ended, tables_text}
+use Rattle.change_text.specs.Blocks.{Block, AreFrom, Differs, FollowsAs, IsRising, put_all, rows_after, table_of, tables_from}
+use Rattle.change_text.specs.Spelling.{block_text, block_lines, changes_lines, changes_text, tables_text}
 use Rattle.change_text.specs.Inside.{Advances, Stands, advanced, full, last_rows, RisesIn}
 use Rattle.change_text.proofs.Blocks.{ended-append, rises_as}
 
@@ -30,10 +29,10 @@ no_front old text = (0, omega arith, nothing_appended old)
 -- a front of a part behind what was written
 pub front_behind : (old mid new : Option (List ℕ)) (before part behind text : List ℕ) → text ≡ before ++ (part ++ behind) → mid ≡ appended old before → GrewByFront mid new part → GrewByFront old new text
 front_behind old mid new before part behind text is so_far grew = (
-    length before + grew.0,
-    omega (arith, ap (λ (bs : List ℕ). length bs) is, length-append before (part ++ behind), length-append part behind, grew.1),
-    grew.2 ∙ ap (λ (w : Option (List ℕ)). appended w (take grew.0 part)) so_far ∙ appended-append old before (take grew.0 part)
-    ∙ ap (λ (bs : List ℕ). appended old bs) (sym (ap (λ (bs : List ℕ). take (length before + grew.0) bs) is ∙ take-append-add before (part ++ behind) grew.0 ∙ ap (λ (bs : List ℕ). before ++ bs) (take-append-le grew.0 part behind grew.1))),
+  length before + grew.0,
+  omega (arith, ap (λ (bs : List ℕ). length bs) is, length-append before (part ++ behind), length-append part behind, grew.1),
+  grew.2 ∙ ap (λ (w : Option (List ℕ)). appended w (take grew.0 part)) so_far ∙ appended-append old before (take grew.0 part)
+      ∙ ap (λ (bs : List ℕ). appended old bs) (sym (ap (λ (bs : List ℕ). take (length before + grew.0) bs) is ∙ take-append-add before (part ++ behind) grew.0 ∙ ap (λ (bs : List ℕ). before ++ bs) (take-append-le grew.0 part behind grew.1))),
 )
 
 -- ---- tables
@@ -50,9 +49,9 @@ advances_as : (k : Kind) (before : Option Block) (b : Block) (rows : List Row) �
 advances_as kind.Full before b rows e up own follows = tt
 advances_as kind.Change None b rows e up own follows = absurd follows
 advances_as kind.Change (Some t) b rows e up own follows = (
-    subst (λ (rs : List Row). IsRising rs) (sym e) up,
-    own,
-    subst (λ (rs : List Row). All (Differs rs) b.rows) (sym e) follows.2,
+  subst (λ (rs : List Row). IsRising rs) (sym e) up,
+  own,
+  subst (λ (rs : List Row). All (Differs rs) b.rows) (sym e) follows.2,
 )
 
 pub at_start : (all : List Block) → AreFrom None all → Stands all all [] []

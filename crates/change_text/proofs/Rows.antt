@@ -1,8 +1,8 @@
 -- Rows by rising ids: where one stands, and what putting one in leaves.
-use Rattle.std.proofs.Common.{◌≡◌, ◌≢◌, ◌∙◌, ◌⊎◌, ℕ, zero, suc, ◌+◌, ◌-◌, ◌<◌, ◌≤◌, ◌==◌, Bool, true, false, cond, List, [], ◌∷◌, ◌++◌, length, take, drop, map, set, fold, get_or, slice_get, Option, Some, None, All, refl, sym, ap, subst, arith, inl, inr, eqb, if◌then◌else◌, add-one, drop-cons, take_all, append-nil}
+use Rattle.std.proofs.Common.{◌≡◌, ◌≢◌, ◌∙◌, ◌⊎◌, ℕ, zero, suc, ◌+◌, ◌<◌, ◌≤◌, ◌==◌, Bool, true, false, List, [], ◌∷◌, ◌++◌, length, take, drop, set, fold, get_or, Option, Some, None, All, refl, sym, ap, subst, arith, inl, inr, if◌then◌else◌, add-one, drop-cons, take_all, append-nil}
 use Rattle.std.proofs.lemmas.Bool.Decides.{eqb_tells}
-use Rattle.std.proofs.lemmas.List.{length-drop, map-append, set_split, take_more_set, length-set}
-use Rattle.std.proofs.lemmas.List.Elements.{All-append, All-cons, All-head, All-map, All-nil, All-push, All-same, All-tail, All-weaker, All-take}
+use Rattle.std.proofs.lemmas.List.{length-drop, set_split, take_more_set, length-set}
+use Rattle.std.proofs.lemmas.List.Elements.{All-cons, All-head, All-map, All-nil, All-push, All-tail, All-weaker}
 use Rattle.std.proofs.lemmas.List.Sums.{fold_push}
 use Rattle.graph_model.specs.declared.value.Val.{Val}
 use Rattle.change_text.specs.declared.row.Row.{Row}
@@ -79,7 +79,6 @@ none_some e = absurd cc
 some_same : {v w : Val} → Some v ≡ Some w → v ≡ w
 some_same e = cc
 
-
 value_past : (table : List Row) (id : ℕ) → All (λ r. r.id ≢ id) table → value_at table id ≡ None
 value_past [] id all = refl
 value_past (r ∷ rs) id all = value_other r id (value_at rs id) (All-head (λ (s : Row). s.id ≢ id) r rs all) ∙ value_past rs id (All-tail (λ (s : Row). s.id ≢ id) r rs all)
@@ -123,12 +122,12 @@ module _ (table : List Row) (p : ℕ) (row d : Row) (up : IsRising table) (at : 
 
   pub row_found : p < length table → (get_or table p d).id ≡ row.id → (get_or table p d).value ≢ row.value → PutsRow table row (set table p row) (Some (p + 1))
   row_found lt is ne = (
-      ((get_or table p d).value, at_place lt is, ne),
-      set_split table p row lt
-      ∙ sym (ap (λ (rs : List Row). put rs row) (cut_row table p d lt) ∙ put_at (take p table) (drop (suc p) table) (get_or table p d) row at.below is (rising_after table p d up lt)),
-      omega (arith, lt, length-set table p row),
-      subst (λ (rs : List Row). All (λ r. r.id ≤ row.id) rs) (sym (take_more_set table p row lt))
-      (All-push (λ (r : Row). r.id ≤ row.id) (take p table) row (All-weaker (λ (r : Row). r.id < row.id) (λ (r : Row). r.id ≤ row.id) (λ r h. omega (arith, h)) (take p table) at.below) (omega arith)),
+    ((get_or table p d).value, at_place lt is, ne),
+    set_split table p row lt
+        ∙ sym (ap (λ (rs : List Row). put rs row) (cut_row table p d lt) ∙ put_at (take p table) (drop (suc p) table) (get_or table p d) row at.below is (rising_after table p d up lt)),
+    omega (arith, lt, length-set table p row),
+    subst (λ (rs : List Row). All (λ r. r.id ≤ row.id) rs) (sym (take_more_set table p row lt))
+        (All-push (λ (r : Row). r.id ≤ row.id) (take p table) row (All-weaker (λ (r : Row). r.id < row.id) (λ (r : Row). r.id ≤ row.id) (λ r h. omega (arith, h)) (take p table) at.below) (omega arith)),
   )
 
   -- no row has the id
@@ -141,8 +140,8 @@ module _ (table : List Row) (p : ℕ) (row d : Row) (up : IsRising table) (at : 
 
   pub row_past : p ≡ length table → PutsRow table row table None
   row_past is = (
-      λ differs. absurd (none_some (sym (ap (λ (rs : List Row). value_at rs row.id) (sym (append-nil table)) ∙ none_there table [] (all_before is) (All-nil (λ (r : Row). row.id < r.id))) ∙ differs.1)),
-      refl,
+    λ differs. absurd (none_some (sym (ap (λ (rs : List Row). value_at rs row.id) (sym (append-nil table)) ∙ none_there table [] (all_before is) (All-nil (λ (r : Row). row.id < r.id))) ∙ differs.1)),
+    refl,
   )
 
   pub row_missing : p < length table → (get_or table p d).id ≢ row.id → PutsRow table row table None
@@ -178,11 +177,11 @@ one_value : (r row : Row) (id : ℕ) (was now : Option Val) → row.id ≢ id �
 one_value r row id was now ne same =
     elim (told r.id row.id) [
       | inl h ↦
-        ap (λ (b : Bool). if (if b then row else r).id == id then Some (if b then row else r).value else now) h.0
-        ∙ value_other row id now ne ∙ same ∙ sym (value_other r id was (λ e. ne (sym h.1 ∙ e)))
+          ap (λ (b : Bool). if (if b then row else r).id == id then Some (if b then row else r).value else now) h.0
+          ∙ value_other row id now ne ∙ same ∙ sym (value_other r id was (λ e. ne (sym h.1 ∙ e)))
       | inr h ↦
-        ap (λ (b : Bool). if (if b then row else r).id == id then Some (if b then row else r).value else now) h.0
-        ∙ ap (λ (o : Option Val). if r.id == id then Some r.value else o) same
+          ap (λ (b : Bool). if (if b then row else r).id == id then Some (if b then row else r).value else now) h.0
+          ∙ ap (λ (o : Option Val). if r.id == id then Some r.value else o) same
     ]
 
 value_put : (rows : List Row) (row : Row) (id : ℕ) → row.id ≢ id → value_at (put rows row) id ≡ value_at rows id
@@ -231,8 +230,8 @@ all_lower rows n up le = All-weaker (λ (r : Row). r.id < next_id rows) (λ (r :
 rising_more : (rows : List Row) (row : Row) → IsRising rows → All (λ r. r.id < row.id) rows → IsRising (rows ++ row ∷ [])
 rising_more [] row up low = (All-nil (λ (s : Row). row.id < s.id), tt)
 rising_more (r ∷ rs) row up low = (
-    All-push (λ (s : Row). r.id < s.id) rs row up.0 (All-head (λ (s : Row). s.id < row.id) r rs low),
-    rising_more rs row up.1 (All-tail (λ (s : Row). s.id < row.id) r rs low),
+  All-push (λ (s : Row). r.id < s.id) rs row up.0 (All-head (λ (s : Row). s.id < row.id) r rs low),
+  rising_more rs row up.1 (All-tail (λ (s : Row). s.id < row.id) r rs low),
 )
 
 pub rising_push : (rows : List Row) (row : Row) → IsRising rows → next_id rows ≤ row.id → IsRising (rows ++ row ∷ [])

@@ -1,20 +1,20 @@
 -- One more line: what it leaves where it is taken, and why no change text has it where it is not.
-use Rattle.std.proofs.Common.{◌≡◌, ◌≢◌, ◌∙◌, ℕ, zero, suc, ◌+◌, ◌<◌, ◌≤◌, Bool, true, false, List, [], ◌∷◌, ◌++◌, length, take, map, Option, Some, None, All, refl, sym, ap, subst, arith, append_assoc, append-nil, true≢false, inl, inr}
+use Rattle.std.proofs.Common.{◌≡◌, ◌≢◌, ◌∙◌, ℕ, ◌<◌, ◌≤◌, true, false, List, [], ◌∷◌, ◌++◌, length, take, map, Option, Some, None, All, refl, sym, ap, subst, arith, append_assoc, append-nil, true≢false, inl, inr}
 use Rattle.std.proofs.lemmas.List.{map_push}
-use Rattle.std.proofs.lemmas.List.Elements.{All-head, All-nil, All-push, All-weaker}
+use Rattle.std.proofs.lemmas.List.Elements.{All-nil, All-push, All-weaker}
 use Rattle.vertex_lang.specs.declared.lone.Outcome.{Outcome}
 use Rattle.vertex_lang.specs.declared.lone.Outcome.TheVariants as outcome
 use Rattle.change_text.specs.declared.kind.Kind.{Kind}
 use Rattle.change_text.specs.declared.kind.Kind.TheVariants as kind
 use Rattle.change_text.specs.declared.reader.Opened.{Opened}
 use Rattle.change_text.specs.declared.row.Row.{Row}
-use Rattle.change_text.specs.Blocks.{Block, AreBlocks, AreFrom, Differs, Follows, FollowsAs, HasRows, IsBlock, IsRising, IsRow, put, put_all, rows_after, table_of}
-use Rattle.change_text.specs.Spelling.{block_lines, changes_lines, front_lines, last_line, opening_line, row_line}
-use Rattle.change_text.specs.Inside.{Brings, IsChanging, IsOpen, IsOpenAs, IsPart, IsShut, KeepsTable, Opens, PutsRow, ReadsRow, Refused, RisesIn, has_rows, last_outcome, last_rows, last_table, may_change, may_stand, next_id, open_lines, opened_block, settled}
+use Rattle.change_text.specs.Blocks.{Block, AreBlocks, AreFrom, Differs, Follows, FollowsAs, HasRows, IsBlock, IsRising, IsRow, put, rows_after}
+use Rattle.change_text.specs.Spelling.{changes_lines, front_lines, last_line, opening_line, row_line}
+use Rattle.change_text.specs.Inside.{Brings, IsChanging, IsOpen, IsOpenAs, IsPart, IsShut, KeepsTable, Opens, ReadsRow, Refused, RisesIn, has_rows, last_outcome, last_rows, last_table, may_change, may_stand, next_id, open_lines, opened_block, settled}
 use Rattle.change_text.proofs.Split.{same_head, same_tail}
 use Rattle.change_text.proofs.Lines.{same_opening, same_row_line}
 use Rattle.change_text.proofs.Rows.{all_lower, all_middle, differs_after, differs_before, next_push, put_push, rises_behind, rising_put_all, rising_push}
-use Rattle.change_text.proofs.Blocks.{Behind, GoesOn, are_push, behind_rows, blocks_front, last_push, last_rises, lines_push, lines_split, rows_rise, same_block}
+use Rattle.change_text.proofs.Blocks.{Behind, are_push, behind_rows, blocks_front, last_push, last_rises, lines_push, lines_split, same_block}
 
 -- ---- first lines
 
@@ -175,9 +175,9 @@ follows_more : (k : Kind) (before : Option Block) (b : Block) (row : Row) (table
 follows_more kind.Full before b row table after place next low keeps follows brings = tt
 follows_more kind.Change None b row table after place next low keeps follows brings = follows
 follows_more kind.Change (Some t) b row table after place next low keeps follows brings = (
-    follows.0,
-    follows.1,
-    All-push (Differs t.rows) b.rows row follows.2 (differs_before t.rows b.rows row low (subst (λ (rs : List Row). Differs rs row) keeps.0 brings.0)),
+  follows.0,
+  follows.1,
+  All-push (Differs t.rows) b.rows row follows.2 (differs_before t.rows b.rows row low (subst (λ (rs : List Row). Differs rs row) keeps.0 brings.0)),
 )
 
 keeps_more : (k : Kind) (before : Option Block) (b : Block) (row : Row) (table after : List Row) (place next : ℕ) → FollowsAs k before b → KeepsTable k before b.rows table place → Brings k table place row after (Some next)
@@ -185,9 +185,9 @@ keeps_more : (k : Kind) (before : Option Block) (b : Block) (row : Row) (table a
 keeps_more kind.Full before b row table after place next follows keeps brings = brings
 keeps_more kind.Change None b row table after place next follows keeps brings = absurd follows
 keeps_more kind.Change (Some t) b row table after place next follows keeps brings = (
-    brings.1 ∙ ap (λ (rs : List Row). put rs row) keeps.0 ∙ sym (put_push t.rows b.rows row),
-    brings.2,
-    All-weaker (λ (r : Row). r.id ≤ row.id) (λ (r : Row). r.id < next_id (b.rows ++ row ∷ [])) (λ r h. omega (arith, h, next_push b.rows row)) (take next after) brings.3,
+  brings.1 ∙ ap (λ (rs : List Row). put rs row) keeps.0 ∙ sym (put_push t.rows b.rows row),
+  brings.2,
+  All-weaker (λ (r : Row). r.id ≤ row.id) (λ (r : Row). r.id < next_id (b.rows ++ row ∷ [])) (λ r h. omega (arith, h, next_push b.rows row)) (take next after) brings.3,
 )
 
 pub row_taken : (before : Option Block) (o : Opened) (row : Row) (rows table after : List Row) (place next : ℕ) → IsOpen o before rows table place → IsRow row → next_id rows ≤ row.id → has_rows o.outcome ≡ true

@@ -1,7 +1,6 @@
 -- The text of a block, and the rows that differ.
-use Rattle.std.proofs.Common.{◌≡◌, ◌∙◌, ℕ, zero, suc, ◌+◌, ◌<◌, ◌≤◌, Bool, true, false, not, cond, List, [], ◌∷◌, ◌++◌, length, take, drop, map, filter, flat_map, get_or, codes, Option, Some, None, refl, sym, ap, ap₂, subst, arith, append_assoc, append-nil, decimal, take-append-drop, ◌≢◌, ◌&&◌, MatchBool, true≢false, if◌then◌else◌, option_copied, slice_get}
+use Rattle.std.proofs.Common.{◌≡◌, ◌∙◌, ℕ, ◌+◌, ◌<◌, ◌≤◌, Bool, true, false, not, cond, List, [], ◌∷◌, ◌++◌, length, take, drop, map, filter, flat_map, get_or, codes, Option, Some, None, refl, sym, ap, ap₂, subst, append_assoc, append-nil, decimal, take-append-drop, ◌≢◌, ◌&&◌, MatchBool, true≢false, if◌then◌else◌, option_copied, slice_get}
 use Rattle.std.proofs.lemmas.List.{drop_more, map-append, take-take}
-use Rattle.std.proofs.lemmas.List.Concat.{flat_map-append}
 use Rattle.std.proofs.lemmas.List.Elements.{filter_more}
 use denote.Ref.{Bor}
 use Rattle.std.proofs.lemmas.Option.{get_or_from_slice_get}
@@ -12,14 +11,14 @@ use Rattle.graph_model.specs.declared.number.NodeNo.{NodeNo}
 use Rattle.graph_model.specs.declared.value.Val.{Val}
 use Rattle.vertex_lang.specs.declared.lone.Outcome.{Outcome}
 use Rattle.vertex_lang.specs.declared.lone.Outcome.TheVariants as outcome
-use Rattle.result_tables.specs.TableText.{line_end, node_line, node_lines, outcome_text, rows, table_text, value_line, value_text}
+use Rattle.result_tables.specs.TableText.{line_end, node_line, outcome_text, rows, table_text, value_line, value_text}
 use Rattle.result_tables.specs.declared.table.Table.{Table}
 use Rattle.change_text.specs.declared.kind.Kind.{Kind}
 use Rattle.change_text.specs.declared.kind.Kind.TheVariants as kind
 use Rattle.change_text.specs.declared.row.Row.{Row}
 use Rattle.change_text.specs.Blocks.{Block}
-use Rattle.change_text.specs.Spelling.{block_lines, block_text, ended, front_lines, last_line, opening_line, row_line, word}
-use Rattle.change_text.specs.Writing.{IsTableHead, block_of, changed_rows, is_changed, is_shown, kind_behind, row_of, rows_behind, table_rows}
+use Rattle.change_text.specs.Spelling.{block_text, ended, last_line, opening_line, row_line, word}
+use Rattle.change_text.specs.Writing.{IsTableHead, block_of, changed_rows, is_changed, kind_behind, row_of, rows_behind, table_rows}
 use Rattle.change_text.proofs.Blocks.{ended-append}
 
 -- ---- the text of a block, part by part

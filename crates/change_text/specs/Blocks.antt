@@ -1,5 +1,5 @@
 -- What a change text holds: blocks, one behind the other, and the tables that they come to.
-use Rattle.std.specs.Prelude.{◌≡◌, ◌≢◌, ℕ, ℤ, pos, negsuc, ◌+◌, ◌<◌, ◌^◌, ◌==◌, List, [], ◌∷◌, map, fold, All, Option, Some, None, if◌then◌else◌}
+use Rattle.std.specs.Prelude.{◌≡◌, ◌≢◌, ℕ, pos, negsuc, ◌+◌, ◌<◌, ◌^◌, ◌==◌, List, [], ◌∷◌, map, fold, All, Option, Some, None, if◌then◌else◌}
 use Rattle.graph_model.specs.declared.value.Val.{Val}
 use Rattle.graph_model.specs.declared.value.Val.TheVariants.{Nil, Num}
 use Rattle.vertex_lang.specs.declared.lone.Outcome.{Outcome}

@@ -1,5 +1,5 @@
 -- Inside this room: what its parts promise one another.
-use Rattle.std.specs.Prelude.{◌≡◌, ◌≢◌, ℕ, ◌+◌, ◌≤◌, ◌<◌, ◌^◌, Bool, true, false, List, [], ◌∷◌, ◌++◌, length, take, drop, fold, map, All, Option, Some, None}
+use Rattle.std.specs.Prelude.{◌≡◌, ◌≢◌, ℕ, ◌+◌, ◌≤◌, ◌<◌, ◌^◌, Bool, true, false, List, [], ◌∷◌, ◌++◌, length, take, drop, fold, All, Option, Some, None}
 use denote.Ref.{Bor}
 use Rattle.std.specs.Fmt.{decimal}
 use Rattle.surge_outside.specs.declared.trouble.Trouble.{Trouble}
@@ -18,7 +18,7 @@ use Rattle.change_text.specs.declared.opening.Opening.{Opening}
 use Rattle.change_text.specs.declared.reader.Opened.{Opened}
 use Rattle.change_text.specs.declared.reader.Reader.{Reader}
 use Rattle.change_text.specs.declared.row.Row.{Row}
-use Rattle.change_text.specs.Blocks.{Block, AreBlocks, Differs, Follows, FollowsAs, IsBlock, IsHead, IsLine, IsOutcome, IsRising, IsRow, IsValue, put, put_all, rows_after, table_of, tables_from, AreFrom}
+use Rattle.change_text.specs.Blocks.{Block, AreBlocks, Differs, Follows, IsBlock, IsHead, IsOutcome, IsRising, IsRow, IsValue, put, put_all, rows_after, table_of, tables_from, AreFrom}
 use Rattle.change_text.specs.Writing.{changed_rows}
 use Rattle.change_text.specs.Spelling.{changes_lines, changes_text, front_lines, opening_line, row_line, tables_text, word}
 

@@ -26,14 +26,20 @@ fn bad_line(alloc: Global, text: &[u8]) -> Result<u32, Fail>
 const TEXTS: [(&[u8], u32); 26] = [
     (b"", 0),
     (b"change C.b x settled 1\nend\n", 1),
-    (b"view x settled 0\n1,0\nend\nchange x settled 0\n1,0\nend\n", 5),
+    (
+        b"view x settled 0\n1,0\nend\nchange x settled 0\n1,0\nend\n",
+        5,
+    ),
     (b"view x settled 0\n1,0", 2),
     (b"view x settled 0\n1,0\n", 3),
     (b"view x settled 0\n1,-0\nend\n", 2),
     (b"view x settled 0\n01,0\nend\n", 2),
     (b"view x settled 0\n1,00\nend\n", 2),
     (b"view x settled 0\n1,+5\nend\n", 2),
-    (b"view x settled 0\n9223372036854775807,9223372036854775807\nend\n", 0),
+    (
+        b"view x settled 0\n9223372036854775807,9223372036854775807\nend\n",
+        0,
+    ),
     (b"view x settled 0\n1,-9223372036854775807\nend\n", 0),
     (b"view x settled 0\n9223372036854775808,0\nend\n", 2),
     (b"view x settled 0\n1,-9223372036854775808\nend\n", 2),
@@ -43,7 +49,10 @@ const TEXTS: [(&[u8], u32); 26] = [
     (b"view x unsettled\n2,0\nend\n", 2),
     (b"view x unsettled\nend\nchange x settled 1\nend\n", 3),
     (b"view x settled 1\nend\nchange x unsettled\nend\n", 3),
-    (b"view x settled 1\n2,5\nend\nchange x after 1\n3,5\nend\n", 5),
+    (
+        b"view x settled 1\n2,5\nend\nchange x after 1\n3,5\nend\n",
+        5,
+    ),
     (b"view x settled 4294967295\nend\n", 0),
     (b"view x settled 4294967296\nend\n", 1),
     (b"view  settled 1\nend\n", 1),
@@ -73,15 +82,42 @@ const CUT: &[u8] =
 
 // The same with the byte at each place exchanged for this one. (Both are printed by `tests/oracle/changes.py --table`.)
 const EXCHANGED: [(u8, &[u8]); 9] = [
-    (b'0', b"111110111111111016202330344445555555055555555056666677707888899999099999999999aaaa"),
-    (b'1', b"111110111111111010202330344445555555055555550050600677007888899999099999999999aaaa"),
-    (b'9', b"111110111111111013202730344445555555055555550056600677007888899999099999999999aaaa"),
-    (b'-', b"111110111111111112202330344445555555055555555556606677777888899999099999999999aaaa"),
-    (b',', b"111110111111111112022303344445555555055555555556066670777888899999099999999999aaaa"),
-    (b' ', b"111100011111110112222333344445555550005555505556666677777888899990009999999999aaaa"),
-    (b'\n', b"111111111111111102220333044405555555555555555606667077780888099999999999999990aaa0"),
-    (b'e', b"1101101101110111122223333044455555050555505555566666777770888990990999909990990aaa"),
-    (b'~', b"111110111111111112222333344445555555055555555556666677777888899999099999999999aaaa"),
+    (
+        b'0',
+        b"111110111111111016202330344445555555055555555056666677707888899999099999999999aaaa",
+    ),
+    (
+        b'1',
+        b"111110111111111010202330344445555555055555550050600677007888899999099999999999aaaa",
+    ),
+    (
+        b'9',
+        b"111110111111111013202730344445555555055555550056600677007888899999099999999999aaaa",
+    ),
+    (
+        b'-',
+        b"111110111111111112202330344445555555055555555556606677777888899999099999999999aaaa",
+    ),
+    (
+        b',',
+        b"111110111111111112022303344445555555055555555556066670777888899999099999999999aaaa",
+    ),
+    (
+        b' ',
+        b"111100011111110112222333344445555550005555505556666677777888899990009999999999aaaa",
+    ),
+    (
+        b'\n',
+        b"111111111111111102220333044405555555555555555606667077780888099999999999999990aaa0",
+    ),
+    (
+        b'e',
+        b"1101101101110111122223333044455555050555505555566666777770888990990999909990990aaa",
+    ),
+    (
+        b'~',
+        b"111110111111111112222333344445555555055555555556666677777888899999099999999999aaaa",
+    ),
 ];
 
 // A line as a hexadecimal digit.
@@ -220,8 +256,7 @@ fn tables_of_texts(rt: HostRuntime) -> Result<(), Fail> {
     if BLOCKS.len() <= 1_000 {
         let tables = replayed(rt.alloc(), BLOCKS)?;
         let wanted =
-            b"view x settled 0\n1,0\n7,-\nend\nview x after 13\n1,-5\n7,20\nend\nview y unsettled\nend\n"
-                .as_slice();
+            b"view x settled 0\n1,0\n7,-\nend\nview x after 13\n1,-5\n7,20\nend\nview y unsettled\nend\n".as_slice();
         assert!(rt; tables.as_slice() == wanted);
     }
     Ok(())

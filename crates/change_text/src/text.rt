@@ -61,11 +61,7 @@ fn push_word(text: &mut Vec<u8>, kind: Kind) -> Result<(), NoMemory>
 }
 
 /// Adds the text of a block.
-pub(crate) fn push_block(
-    text: &mut Vec<u8>,
-    frame: Frame<'_>,
-    rows: &[Row],
-) -> Result<(), NoMemory>
+pub(crate) fn push_block(text: &mut Vec<u8>, frame: Frame<'_>, rows: &[Row]) -> Result<(), NoMemory>
     ensures { OnOk result (text.new.items ≡ text.old.items ++ block_text (record { kind = frame.entry.kind; head = frame.entry.head.now; outcome = frame.entry.outcome; rows = rows.now })) }
 {
     push_word(text, frame.kind)?;

@@ -89,7 +89,12 @@ fn change_text(
     requires table { length table.now.values ≡ length graph.now.ids }
     ensures { IfOk result (λ text. text.items ≡ block_text (change_of head.now graph.now before.now table.now)) }
 {
-    let rows = rows_that_differ(alloc, graph, before.values.as_slice(), table.values.as_slice())?;
+    let rows = rows_that_differ(
+        alloc,
+        graph,
+        before.values.as_slice(),
+        table.values.as_slice(),
+    )?;
     let mut text = Vec::new(alloc);
     let frame = Frame {
         kind: Kind::Change,

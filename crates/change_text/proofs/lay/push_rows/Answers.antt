@@ -10,7 +10,7 @@ pub loop-done-preserved : goal.loop-done-preserved
 loop-done-preserved c =
     let room = c.lay_rows-start.ensures.size ∙ c.loop-done.invariant.room in
     let laid = between_to_end c.lay_rows-start.new.room c.lay_rows-start.result 2_752 (omega (arith, room)) ∙ c.lay_rows-start.ensures.lines
-        ∙ ap (λ (rs : List Row). ended (map row_line rs)) (between_is c.args.rows.now c.loop-done.done c.min-upto.result) in
+    ∙ ap (λ (rs : List Row). ended (map row_line rs)) (between_is c.args.rows.now c.loop-done.done c.min-upto.result) in
     record {
       within = omega (arith, c.min-upto.ensures);
       room = room;

@@ -1,4 +1,4 @@
-use Rattle.std.proofs.Common.{List, [], ℕ, length, ◌∙◌, sym, ap, arith}
+use Rattle.std.proofs.Common.{List, ℕ, length, ◌∙◌, sym, ap, arith}
 use Rattle.std.proofs.lemmas.List.{nil_from_length}
 use Rattle.change_text.specs.Inside.{said}
 use Rattle.change_text.proofs.Split.{no_items, some_items}

@@ -1,9 +1,9 @@
 -- The table of one more block.
-use Rattle.std.proofs.Common.{◌≡◌, ◌∙◌, ◌++◌, ◌+◌, ℕ, List, [], Option, Some, get_or, drop, refl, ap, sym, subst, arith, append_assoc}
+use Rattle.std.proofs.Common.{◌≡◌, ◌∙◌, ◌++◌, ◌+◌, ℕ, List, [], Option, get_or, drop, ap, sym, subst, arith}
 use Rattle.change_text.specs.declared.row.Row.{Row}
 use Rattle.surge_outside.specs.Written.{GrewByFront, appended}
 use Rattle.change_text.specs.declared.flat.End.{End}
-use Rattle.change_text.specs.Blocks.{Block, table_of, tables_from}
+use Rattle.change_text.specs.Blocks.{Block, tables_from}
 use Rattle.change_text.specs.Spelling.{block_text, changes_text, tables_text}
 use Rattle.change_text.specs.Memory.{AreEnds, blocks_of}
 use Rattle.change_text.specs.Inside.{Advances, Stands, advanced, full}
@@ -69,7 +69,7 @@ loop-end-preserved g c =
       stands = (
         st.0 ++ more,
         subst (λ (hs : List ℕ). Stands c.args.changes.now (blocks_of (drop (i + 1) ends) hs c.split_at-in-loop-end.result.1.now) (st.0 ++ more) c.advance.new.table.items) (sym c.split_at.ensures.back)
-        (subst (λ (rs : List Row). Stands c.args.changes.now (blocks_of (drop (i + 1) ends) (drop e.head c.loop-end.heads.now) rs) (st.0 ++ more) c.advance.new.table.items) (sym c.split_at-in-loop-end.ensures.back) stands),
+            (subst (λ (rs : List Row). Stands c.args.changes.now (blocks_of (drop (i + 1) ends) (drop e.head c.loop-end.heads.now) rs) (st.0 ++ more) c.advance.new.table.items) (sym c.split_at-in-loop-end.ensures.back) stands),
         written,
       );
       faults = omega (arith, c.loop-end.invariant.faults, c.write_rows.ensures.faults);

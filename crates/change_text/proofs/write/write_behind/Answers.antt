@@ -1,4 +1,4 @@
-use Rattle.std.proofs.Common.{◌≡◌, ◌∙◌, List, ℕ, Some, OnOk, OnErr, ap, sym, subst}
+use Rattle.std.proofs.Common.{◌≡◌, ◌∙◌, List, ℕ, Some, OnOk, OnErr, sym, subst}
 use Rattle.surge_outside.specs.Written.{GrewByFront, appended}
 use Rattle.change_text.proofs.Writing.{both_shown, change_is, full_is, not_before, not_now}
 use Rattle.change_text.specs.Writing.{is_shown}
@@ -29,13 +29,13 @@ returns-then-not-is_shown-2-clause-err g c =
 pub returns-in-Ok-clause-ok : goal.returns-in-Ok-clause-ok
 returns-in-Ok-clause-ok g c =
     let text = c.as_slice.ensures.value ∙ c.in-Ok.ensures
-        ∙ change_is c.args.head.now c.args.graph.now c.args.before.now c.args.table.now
-        (both_shown (is_shown c.args.before.now.outcome) (is_shown c.args.table.now.outcome) (sym c.if-not-is_shown.ensures) (sym c.if-not-is_shown-2.ensures)) in
+    ∙ change_is c.args.head.now c.args.graph.now c.args.before.now c.args.table.now
+    (both_shown (is_shown c.args.before.now.outcome) (is_shown c.args.table.now.outcome) (sym c.if-not-is_shown.ensures) (sym c.if-not-is_shown-2.ensures)) in
     subst (λ (bs : List ℕ). OnOk c.put_all.result (g.O.Sink.written c.put_all.new.sink ≡ appended (g.O.Sink.written c.args.out.now) bs)) text c.put_all.ensures.all
 
 pub returns-in-Ok-clause-err : goal.returns-in-Ok-clause-err
 returns-in-Ok-clause-err g c =
     let text = c.as_slice.ensures.value ∙ c.in-Ok.ensures
-        ∙ change_is c.args.head.now c.args.graph.now c.args.before.now c.args.table.now
-        (both_shown (is_shown c.args.before.now.outcome) (is_shown c.args.table.now.outcome) (sym c.if-not-is_shown.ensures) (sym c.if-not-is_shown-2.ensures)) in
+    ∙ change_is c.args.head.now c.args.graph.now c.args.before.now c.args.table.now
+    (both_shown (is_shown c.args.before.now.outcome) (is_shown c.args.table.now.outcome) (sym c.if-not-is_shown.ensures) (sym c.if-not-is_shown-2.ensures)) in
     subst (λ (bs : List ℕ). OnErr c.put_all.result (GrewByFront (g.O.Sink.written c.args.out.now) (g.O.Sink.written c.put_all.new.sink) bs)) text c.put_all.ensures.front

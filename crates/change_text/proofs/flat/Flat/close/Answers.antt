@@ -1,8 +1,7 @@
 -- One more block.
-use Rattle.std.proofs.Common.{◌≡◌, ◌∙◌, ◌++◌, [], ◌∷◌, List, ℕ, length, refl, ap, sym, subst}
+use Rattle.std.proofs.Common.{◌∙◌, ◌++◌, [], ◌∷◌, List, ℕ, length, refl, ap, sym, subst}
 use Rattle.change_text.specs.declared.row.Row.{Row}
 use Rattle.change_text.specs.declared.flat.End.{End}
-use Rattle.change_text.specs.Blocks.{Block}
 use Rattle.change_text.specs.Memory.{AreEnds, FlatData, blocks_of, rows_left}
 use Rattle.change_text.proofs.Holding.{are_push, blocks_push, none_left, pushed}
 use Rattle.change_text.proofs.flat.Flat.close.Goals as goal

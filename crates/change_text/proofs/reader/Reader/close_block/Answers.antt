@@ -14,8 +14,7 @@ returns c =
     let now : c.close.new.self.blocks ≡ r.flat.blocks ++ opened_block o r.flat.rows ∷ [] =
     c.in_ok-close.ensures.blocks ∙ ap (λ (head : List ℕ). r.flat.blocks ++ record { kind = o.kind; head = head; outcome = o.outcome; rows = r.flat.rows } ∷ []) c.as_slice.ensures in
     let left : c.close.new.self.rows ≡ [] = c.in_ok-close.ensures.rows in
-    let after : c.settle.new.table.items ≡ settled o.kind r.table.items r.flat.rows = c.in_ok-settle.ensures ∙ ap (λ (rs : List Row). settled o.kind r.table.items rs) c.waiting.ensures in
-    (
+    let after : c.settle.new.table.items ≡ settled o.kind r.table.items r.flat.rows = c.in_ok-settle.ensures ∙ ap (λ (rs : List Row). settled o.kind r.table.items rs) c.waiting.ensures in (
       record {
         are = closed_are r.flat.blocks c.close.new.self.blocks o r.flat.rows c.close.new.self.rows r.table.items c.settle.new.table.items r.place r.begun q.are q.part c.requires.shut now left after;
         last = closed_outcome r.flat.blocks c.close.new.self.blocks o r.flat.rows c.close.new.self.rows r.table.items c.settle.new.table.items r.place r.begun q.are q.part c.requires.shut now left after;

@@ -1,4 +1,4 @@
-use Rattle.std.proofs.Common.{◌∙◌, ◌++◌, Option, Bool, sym, ap, subst}
+use Rattle.std.proofs.Common.{◌∙◌, ◌++◌, Option, sym, ap, subst}
 use Rattle.vertex_lang.specs.declared.lone.Outcome.{Outcome}
 use Rattle.change_text.specs.declared.reader.Opened.{Opened}
 use Rattle.change_text.specs.Spelling.{changes_lines}

@@ -1,10 +1,9 @@
 -- A row more, or none.
-use Rattle.std.proofs.Common.{◌≡◌, ◌∙◌, ◌++◌, [], ◌∷◌, List, length, Option, Some, None, ap, sym, subst, arith}
+use Rattle.std.proofs.Common.{◌≡◌, ◌∙◌, ◌++◌, [], ◌∷◌, List, length, Some, None, ap, sym, subst, arith}
 use Rattle.std.specs.Vec.{with_items}
 use Rattle.std.proofs.lemmas.List.{with_items_is}
 use Rattle.change_text.specs.declared.row.Row.{Row}
 use Rattle.change_text.specs.declared.kind.Kind.{Kind}
-use Rattle.vertex_lang.specs.declared.lone.Outcome.{Outcome}
 use Rattle.change_text.specs.Blocks.{Block, AreBlocks}
 use Rattle.change_text.specs.Spelling.{changes_lines}
 use Rattle.change_text.specs.Inside.{Brings, IsChanging, IsPart, has_rows, last_outcome, last_table, next_id, open_lines, opened_block}
@@ -56,8 +55,7 @@ returns c =
     let part =
     row_goes_on r.begun r.flat.blocks r.flat.rows r.table.items c.bring.new.table r.place c.in-Some-bring.place c.args.kind c.args.outcome row c.requires.reader.part c.requires.begun c.in-Some.ensures.0
     (omega (arith, c.if-row-self.false, c.requires.reader.low)) (sym c.if-not-has_rows.ensures)
-    (subst (λ (rs : List Row). Brings c.args.kind rs r.place row c.bring.new.table (Some c.in-Some-bring.place)) c.deref_mut.ensures.value c.in-Some-bring.ensures) in
-    (
+    (subst (λ (rs : List Row). Brings c.args.kind rs r.place row c.bring.new.table (Some c.in-Some-bring.place)) c.deref_mut.ensures.value c.in-Some-bring.ensures) in (
       record {
         are = subst (λ (bs : List Block). AreBlocks bs) (sym blocks) c.requires.reader.are;
         last = c.requires.reader.last ∙ ap (λ (bs : List Block). last_outcome (last_table None bs)) (sym blocks);
@@ -67,5 +65,5 @@ returns c =
             (subst (λ (rs : List Row). IsPart r.begun (last_table None r.flat.blocks) (r.flat.rows ++ row ∷ []) rs c.in-Some-bring.place) (sym items) part));
       },
       ap (λ (bs : List Block). changes_lines bs ++ open_lines r.begun c.push.new.self.rows) blocks ∙ ap (λ (rs : List Row). changes_lines r.flat.blocks ++ open_lines r.begun rs) rows
-      ∙ row_adds r.begun r.flat.blocks r.flat.rows c.args.kind c.args.outcome row c.args.line.now c.requires.begun c.in-Some.ensures.1,
+          ∙ row_adds r.begun r.flat.blocks r.flat.rows c.args.kind c.args.outcome row c.args.line.now c.requires.begun c.in-Some.ensures.1,
     )
