@@ -1,0 +1,10 @@
+pub mod Split
+pub mod Numbers
+pub mod Rows
+pub mod Lines
+pub mod Blocks
+pub mod Judging
+pub mod Holding
+pub mod Taking
+pub mod Replaying
+pub mod Writing
