@@ -27,6 +27,3 @@ mod work;
 pub use all::run_all;
 pub use laws::keeps_texts;
 pub use session::{Next, Session, SessionFault};
-
-#[cfg(test)]
-mod tests;

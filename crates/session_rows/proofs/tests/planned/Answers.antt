@@ -2,7 +2,7 @@
 use Rattle.std.proofs.Common.{◌<◌, ◌^◌, length, arith, rules}
 use Rattle.std.proofs.lemmas.Grind.{common_steps}
 use Rattle.gvdl_check.specs.Written.{written_so}
-use Rattle.surge_session.proofs.tests.planned.Goals as goal
+use Rattle.session_rows.proofs.tests.planned.Goals as goal
 
 pub check-requires : goal.check-requires
 check-requires c =
