@@ -8,3 +8,4 @@ pub mod Holding
 pub mod Taking
 pub mod Replaying
 pub mod Writing
+pub mod Following

@@ -37,7 +37,7 @@ row_is_line row is =
     lacks_append 10 (decimal row.id) (44 ∷ value_text row.value) (lacks_in 10 row.id not_end (omega (arith, is.0)))
     (lacks_cons 10 44 (value_text row.value) (λ e. absurd (omega (arith, e))) (lacks_value 10 not_end minus_no_end row.value is.1))
 
-abbrev row_with : ℕ → Val → Row
+abbrev pub row_with : ℕ → Val → Row
 row_with id value = record { id = id; value = value }
 
 same_row : (r s : Row) → r.id ≡ s.id → r.value ≡ s.value → r ≡ s

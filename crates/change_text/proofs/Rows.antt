@@ -15,19 +15,19 @@ use Rattle.change_text.proofs.Split.{same_cons}
 told : (a b : ℕ) → (((a == b) ≡ true) × (a ≡ b)) ⊎ (((a == b) ≡ false) × (a ≢ b))
 told a b = eqb_tells a b
 
-put_here : (r row : Row) → r.id ≡ row.id → (if r.id == row.id then row else r) ≡ row
+pub put_here : (r row : Row) → r.id ≡ row.id → (if r.id == row.id then row else r) ≡ row
 put_here r row e = elim (told r.id row.id) [ inl h ↦ ap (λ (b : Bool). if b then row else r) h.0 | inr h ↦ absurd (h.1 e) ]
 
-put_other : (r row : Row) → r.id ≢ row.id → (if r.id == row.id then row else r) ≡ r
+pub put_other : (r row : Row) → r.id ≢ row.id → (if r.id == row.id then row else r) ≡ r
 put_other r row ne = elim (told r.id row.id) [ inl h ↦ absurd (ne h.1) | inr h ↦ ap (λ (b : Bool). if b then row else r) h.0 ]
 
 put_id : (r row : Row) → (if r.id == row.id then row else r).id ≡ r.id
 put_id r row = elim (told r.id row.id) [ inl h ↦ ap (λ (b : Bool). (if b then row else r).id) h.0 ∙ sym h.1 | inr h ↦ ap (λ (b : Bool). (if b then row else r).id) h.0 ]
 
-value_here : (r : Row) (id : ℕ) (rest : Option Val) → r.id ≡ id → (if r.id == id then Some r.value else rest) ≡ Some r.value
+pub value_here : (r : Row) (id : ℕ) (rest : Option Val) → r.id ≡ id → (if r.id == id then Some r.value else rest) ≡ Some r.value
 value_here r id rest e = elim (told r.id id) [ inl h ↦ ap (λ (b : Bool). if b then Some r.value else rest) h.0 | inr h ↦ absurd (h.1 e) ]
 
-value_other : (r : Row) (id : ℕ) (rest : Option Val) → r.id ≢ id → (if r.id == id then Some r.value else rest) ≡ rest
+pub value_other : (r : Row) (id : ℕ) (rest : Option Val) → r.id ≢ id → (if r.id == id then Some r.value else rest) ≡ rest
 value_other r id rest ne = elim (told r.id id) [ inl h ↦ absurd (ne h.1) | inr h ↦ ap (λ (b : Bool). if b then Some r.value else rest) h.0 ]
 
 -- ---- rows before and behind a place
@@ -102,7 +102,7 @@ cut_row (x ∷ xs) (suc p) d lt = ap (λ (rs : List Row). x ∷ rs) (cut_row xs 
 drop_row : (table : List Row) (p : ℕ) (d : Row) → p < length table → drop p table ≡ get_or table p d ∷ drop (suc p) table
 drop_row table p d lt = drop-cons table p d lt
 
-put_none : (rows : List Row) (row : Row) → All (λ r. r.id ≢ row.id) rows → put rows row ≡ rows
+pub put_none : (rows : List Row) (row : Row) → All (λ r. r.id ≢ row.id) rows → put rows row ≡ rows
 put_none [] row all = refl
 put_none (r ∷ rs) row all =
     same_cons (put_other r row (All-head (λ (s : Row). s.id ≢ row.id) r rs all)) (put_none rs row (All-tail (λ (s : Row). s.id ≢ row.id) r rs all))

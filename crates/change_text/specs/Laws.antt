@@ -1,8 +1,28 @@
 -- What follows from the definitions, each law as one statement.
-use Rattle.std.specs.Prelude.{◌≡◌, ℕ, List}
-use Rattle.change_text.specs.Blocks.{Block}
+use Rattle.std.specs.Prelude.{◌≡◌, ℕ, List, Option, Some, None}
+use Rattle.graph_model.specs.GraphData.{GraphData}
+use Rattle.result_tables.specs.declared.table.Table.{Table}
+use Rattle.change_text.specs.Blocks.{Block, Follows, IsBlock, table_of}
 use Rattle.change_text.specs.Reading.{IsChanges}
+use Rattle.change_text.specs.Writing.{block_of, full_of}
 
 -- a text is the change text of one list of blocks at most
 abbrev pub OneReading : Type 0
 OneReading = (text : List ℕ) (blocks others : List Block) → IsChanges text blocks → IsChanges text others → blocks ≡ others
+
+-- the table before, as a full block, if there is one
+abbrev pub before_of : List ℕ → GraphData → Option Table → Option Block
+before_of head graph None = None
+before_of head graph (Some table) = Some (full_of head graph table)
+
+abbrev pub IsBefore : List ℕ → GraphData → Option Table → Type 0
+IsBefore head graph None = Unit {0}
+IsBefore head graph (Some table) = IsBlock (full_of head graph table)
+
+-- where all rows of a table are a block, and those of the table before, the block that is written may stand behind the table
+-- before, and its table has all those rows again
+abbrev pub TablesComeBack : Type 0
+TablesComeBack =
+    (graph : GraphData) (head earlier : List ℕ) (before : Option Table) (table : Table) → IsBlock (full_of head graph table) → IsBefore earlier graph before
+    → IsBlock (block_of head graph before table) × Follows (before_of earlier graph before) (block_of head graph before table)
+    × (table_of (before_of earlier graph before) (block_of head graph before table) ≡ full_of head graph table)

@@ -47,6 +47,10 @@ table_rows graph outcome.Unsettled values = []
 abbrev pub is_changed : List Val → List Val → NodeNo → Bool
 is_changed before values n = not (same_value (get_or before n.0 Nil) (get_or values n.0 Nil))
 
+-- the block of all rows of a table that is of `head`
+abbrev pub full_of : List ℕ → GraphData → Table → Block
+full_of head graph table = record { kind = kind.Full; head = drop 5 head; outcome = table.outcome; rows = table_rows graph table.outcome table.values }
+
 -- a row for each node that has another value than before, by rising id
 abbrev pub changed_rows : GraphData → List Val → List Val → List Row
 changed_rows graph before values = map (row_of graph values) (filter (is_changed before values) (nodes_by_id graph.ids))

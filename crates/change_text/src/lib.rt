@@ -29,7 +29,7 @@ mod write;
 
 pub use changes::{ChangeText, read_changes};
 pub use fault::{ReplayError, ReplayFault, ReplayStop};
-pub use laws::one_reading;
+pub use laws::{one_reading, tables_come_back};
 pub use tables::replay;
 pub use write::write_change;
 

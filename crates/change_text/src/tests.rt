@@ -8,7 +8,7 @@ use result_tables::Table;
 use std::alloc::Global;
 use std::test::Fail;
 use surge_outside::{List, MemorySink, NoMemory, SureSink};
-use vertex_lang::{Lone, Outcome};
+use vertex_lang::Outcome;
 
 // The first bad line of a text, or 0.
 fn bad_line(alloc: Global, text: &[u8]) -> Result<u32, Fail>
@@ -180,41 +180,38 @@ fn two_nodes(alloc: Global) -> Result<Graph, NoMemory>
     Graph::new(alloc, ids, of_nodes, on_nodes, ends, of_edges, on_edges)
 }
 
-fn table(alloc: Global, outcome: Outcome, values: &[Val]) -> Result<Table, Fail>
-    ensures { IfOk result (λ t. t.values ≡ values.now) }
+// The table of these two values.
+fn table(alloc: Global, outcome: Outcome, values: [Val; 2]) -> Result<Table, NoMemory>
+    ensures { IfOk result (λ t. length t.values ≡ 2) }
 {
-    Ok(Table::from(Lone {
-        outcome,
-        values: List::from_vec(Vec::from_slice(alloc, values)?),
-    }))
+    let values = List::from_vec(Vec::from_slice(alloc, &values)?);
+    Ok(Table { outcome, values })
 }
 
 const HEAD: &[u8] = b"view C.v hops(3)";
 
-// What is written of a table behind another, a few bytes at a time.
-fn written(
-    alloc: Global,
-    before: Option<(Outcome, &[Val])>,
-    outcome: Outcome,
-    values: &[Val],
-) -> Result<List<u8>, Fail> {
+// What is written of a table of these values, a few bytes at a time.
+fn written(alloc: Global, outcome: Outcome, values: [Val; 2]) -> Result<SureSink, Fail> {
     let graph = two_nodes(alloc)?;
-    if values.len() != 2 || HEAD.get(..5) != Some(b"view ".as_slice()) {
-        return Err(Fail::new("other values"));
-    }
     let table = table(alloc, outcome, values)?;
     let mut sink = SureSink::new(alloc, 5);
-    match before {
-        None => write_change(alloc, HEAD, &graph, None, &table, &mut sink)?,
-        Some((outcome, values)) => {
-            if values.len() != 2 {
-                return Err(Fail::new("other values before"));
-            }
-            let before = self::table(alloc, outcome, values)?;
-            write_change(alloc, HEAD, &graph, Some(&before), &table, &mut sink)?;
-        }
+    if HEAD.get(..5) == Some(b"view ".as_slice()) {
+        write_change(alloc, HEAD, &graph, None, &table, &mut sink)?;
     }
-    Ok(List::from_vec(Vec::from_slice(alloc, sink.bytes())?))
+    Ok(sink)
+}
+
+// The same behind another table.
+fn written_behind(alloc: Global, before: &Table, table: &Table) -> Result<SureSink, Fail>
+    requires before { length before.now.values ≡ 2 }
+    requires table { length table.now.values ≡ 2 }
+{
+    let graph = two_nodes(alloc)?;
+    let mut sink = SureSink::new(alloc, 5);
+    if HEAD.get(..5) == Some(b"view ".as_slice()) {
+        write_change(alloc, HEAD, &graph, Some(before), table, &mut sink)?;
+    }
+    Ok(sink)
 }
 
 const LOW: Val = Val::Num(-5);
@@ -222,21 +219,59 @@ const LOW: Val = Val::Num(-5);
 const HIGH: Val = Val::Num(9_223_372_036_854_775_807);
 
 #[test]
-fn tables_as_blocks(rt: HostRuntime) -> Result<(), Fail> {
-    let settled = Outcome::Settled(4);
-    let full = b"view C.v hops(3) settled 4\n3,-\n70,-5\nend\n".as_slice();
-    let text = written(rt.alloc(), None, settled, &[LOW, Val::Nil])?;
-    assert!(rt; text.as_slice() == full);
-    let behind = Some((Outcome::Unsettled, [LOW, LOW].as_slice()));
-    let text = written(rt.alloc(), behind, settled, &[LOW, Val::Nil])?;
-    assert!(rt; text.as_slice() == full);
-    let behind = Some((Outcome::After(20), [LOW, HIGH].as_slice()));
-    let text = written(rt.alloc(), behind, settled, &[LOW, Val::Nil])?;
-    assert!(rt; text.as_slice() == b"change C.v hops(3) settled 4\n3,-\nend\n".as_slice());
-    let text = written(rt.alloc(), behind, Outcome::After(0), &[LOW, HIGH])?;
-    assert!(rt; text.as_slice() == b"change C.v hops(3) after 0\nend\n".as_slice());
-    let text = written(rt.alloc(), behind, Outcome::Unsettled, &[LOW, HIGH])?;
-    assert!(rt; text.as_slice() == b"view C.v hops(3) unsettled\nend\n".as_slice());
+fn a_first_block(rt: HostRuntime) -> Result<(), Fail> {
+    let sink = written(rt.alloc(), Outcome::Settled(4), [LOW, Val::Nil])?;
+    assert!(rt; sink.bytes() == b"view C.v hops(3) settled 4\n3,-\n70,-5\nend\n".as_slice());
+    Ok(())
+}
+
+// Two tables, and the block of the second behind the first.
+const BEHIND: [(Outcome, Val, Outcome, Val, &[u8]); 5] = [
+    (
+        Outcome::Settled(1),
+        HIGH,
+        Outcome::Settled(4),
+        Val::Nil,
+        b"change C.v hops(3) settled 4\n3,-\nend\n",
+    ),
+    (
+        Outcome::After(20),
+        Val::Nil,
+        Outcome::After(0),
+        HIGH,
+        b"change C.v hops(3) after 0\n3,9223372036854775807\nend\n",
+    ),
+    (
+        Outcome::After(20),
+        LOW,
+        Outcome::After(20),
+        LOW,
+        b"change C.v hops(3) after 20\nend\n",
+    ),
+    (
+        Outcome::Unsettled,
+        LOW,
+        Outcome::Settled(4),
+        Val::Nil,
+        b"view C.v hops(3) settled 4\n3,-\n70,-5\nend\n",
+    ),
+    (
+        Outcome::Settled(4),
+        LOW,
+        Outcome::Unsettled,
+        HIGH,
+        b"view C.v hops(3) unsettled\nend\n",
+    ),
+];
+
+#[test]
+fn blocks_behind_tables(rt: HostRuntime) -> Result<(), Fail> {
+    for (earlier, old, outcome, new, text) in BEHIND {
+        let before = table(rt.alloc(), earlier, [LOW, old])?;
+        let table = table(rt.alloc(), outcome, [LOW, new])?;
+        let sink = written_behind(rt.alloc(), &before, &table)?;
+        assert!(rt; sink.bytes() == text);
+    }
     Ok(())
 }
 
@@ -263,20 +298,20 @@ fn tables_of_texts(rt: HostRuntime) -> Result<(), Fail> {
 }
 
 // What is written of a text before its third write fails.
-fn interrupted(alloc: Global, text: &[u8]) -> Result<List<u8>, Fail>
+fn interrupted(alloc: Global, text: &[u8]) -> Result<MemorySink, Fail>
     requires { length text.now ≤ 1_000 }
 {
     let changes = read_changes(alloc, text)?;
     let mut sink = MemorySink::new(alloc, 4, List::from_vec(Vec::from_slice(alloc, &[3])?));
     match replay(alloc, &changes, &mut sink) {
-        Err(ReplayStop::Failed) => Ok(List::from_vec(Vec::from_slice(alloc, sink.bytes())?)),
+        Err(ReplayStop::Failed) => Ok(sink),
         _ => Err(Fail::new("no failure")),
     }
 }
 
 #[test]
 fn a_write_that_fails(rt: HostRuntime) -> Result<(), Fail> {
-    let front = interrupted(rt.alloc(), b"view x settled 0\n1,0\nend\n")?;
-    assert!(rt; front.as_slice() == b"view x s".as_slice());
+    let sink = interrupted(rt.alloc(), b"view x settled 0\n1,0\nend\n")?;
+    assert!(rt; sink.bytes() == b"view x s".as_slice());
     Ok(())
 }
