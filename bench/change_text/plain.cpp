@@ -56,24 +56,34 @@ static Val value() {
     }
 }
 
-static void take(const std::string &piece) {
+static void take(std::string_view piece) {
     bytes += piece.size();
     for (size_t i = 0; i < piece.size() / 1000; i++) sum += uint8_t(piece[i]);
 }
 
-template <class N> static void push(std::string &text, N number) {
-    char room[24];
-    auto end = std::to_chars(room, room + 24, number).ptr;
-    text.append(room, end);
-}
+// One buffer, which is used again for each block and written through a pointer: each line has at most 43 bytes.
+struct Text {
+    static inline std::vector<char> room;
+    char *end;
 
-static void push_row(std::string &text, uint64_t id, const Val &value) {
-    push(text, id);
-    text += ',';
-    if (value.some) push(text, value.number);
-    else text += '-';
-    text += '\n';
-}
+    explicit Text(size_t rows) {
+        if (room.size() < 43 * rows + 256) room.resize(43 * rows + 256);
+        end = room.data();
+    }
+    std::string_view view() const { return {room.data(), size_t(end - room.data())}; }
+    void push(std::string_view text) {
+        memcpy(end, text.data(), text.size());
+        end += text.size();
+    }
+    template <class N> void number(N number) { end = std::to_chars(end, end + 20, number).ptr; }
+    void row(uint64_t id, const Val &value) {
+        number(id);
+        *end++ = ',';
+        if (value.some) number(value.number);
+        else *end++ = '-';
+        *end++ = '\n';
+    }
+};
 
 static int64_t processor_time() {
     timespec time;
@@ -84,13 +94,14 @@ static int64_t processor_time() {
 // ---- writing
 
 static void write(std::string &out, const std::vector<uint64_t> &ids, const std::vector<uint32_t> &order, const std::vector<Val> *before, const std::vector<Val> &values, uint32_t rounds) {
-    std::string text = before ? "change C.v hops(1) settled " : "view C.v hops(1) settled ";
-    push(text, rounds);
-    text += '\n';
+    Text text(order.size());
+    text.push(before ? "change C.v hops(1) settled " : "view C.v hops(1) settled ");
+    text.number(rounds);
+    text.push("\n");
     for (uint32_t node : order)
-        if (!before || (*before)[node] != values[node]) push_row(text, ids[node], values[node]);
-    text += "end\n";
-    out += text;
+        if (!before || (*before)[node] != values[node]) text.row(ids[node], values[node]);
+    text.push("end\n");
+    out += text.view();
 }
 
 // ---- reading
@@ -210,14 +221,15 @@ static void replay(const Changes &changes) {
             }
         }
         row += block.rows;
-        std::string text = "view ";
-        text += block.head;
-        text += block.how == 's' ? " settled " : block.how == 'a' ? " after " : " unsettled";
-        if (block.how != 'u') push(text, block.rounds);
-        text += '\n';
-        for (const Row &held : table) push_row(text, held.id, held.value);
-        text += "end\n";
-        take(text);
+        Text text(table.size() + block.head.size() / 43);
+        text.push("view ");
+        text.push(block.head);
+        text.push(block.how == 's' ? " settled " : block.how == 'a' ? " after " : " unsettled");
+        if (block.how != 'u') text.number(block.rounds);
+        text.push("\n");
+        for (const Row &held : table) text.row(held.id, held.value);
+        text.push("end\n");
+        take(text.view());
     }
 }
 
