@@ -15,6 +15,7 @@ takes stands in tools/proof_minutes.txt, as measured by tests/gate_minutes.py.
 
 import contextlib
 import fcntl
+import glob
 import hashlib
 import os
 import shutil
@@ -291,6 +292,9 @@ class Build:
         """Proves the rooms that wait."""
         places_below = f"{TOP}/crates/{PROGRAM}/out"
         os.makedirs(places_below, exist_ok=True)
+        # (a build that was killed leaves its lanes; none runs now, since the rooms' folders are held)
+        for it in glob.glob(f"{places_below}/lanes.*"):
+            shutil.rmtree(it, ignore_errors=True)
         self.folder = tempfile.mkdtemp(prefix="lanes.", dir=places_below)
         try:
             while self.waiting or self.running():
