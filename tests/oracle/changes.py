@@ -10,7 +10,7 @@ import re
 import sys
 
 NUMBER = rb"(0|[1-9][0-9]*)"
-OPENING = re.compile(rb"(view|change) ([^\n]+) (settled " + NUMBER + rb"|after " + NUMBER + rb"|unsettled)")
+OPENING = re.compile(rb"(view|change) ([^\n]+) ((?:settled|after|phases) " + NUMBER + rb"|unsettled)")
 ROW = re.compile(NUMBER + rb",(-|-?" + NUMBER + rb")")
 
 
@@ -19,7 +19,7 @@ def opening(line):
     match = OPENING.fullmatch(line)
     if match is None:
         return None
-    rounds = match.group(4) or match.group(5)
+    rounds = match.group(4)
     if rounds is not None and int(rounds) >= 2**32:
         return None
     return match.group(1), match.group(2), match.group(3)

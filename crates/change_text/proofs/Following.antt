@@ -102,11 +102,13 @@ module _ (graph : GraphData) (old new : List Val) where
 rows_shown : (graph : GraphData) (o : Outcome) (values : List Val) → is_shown o ≡ true → table_rows graph o values ≡ map (row_of graph values) (nodes_by_id graph.ids)
 rows_shown graph (outcome.Settled r) values e = refl
 rows_shown graph (outcome.After r) values e = refl
+rows_shown graph (outcome.Phases r) values e = refl
 rows_shown graph outcome.Unsettled values e = absurd cc
 
 any_rows : (o : Outcome) (rows : List Row) → is_shown o ≡ true → HasRows o rows
 any_rows (outcome.Settled r) rows e = tt
 any_rows (outcome.After r) rows e = tt
+any_rows (outcome.Phases r) rows e = tt
 any_rows outcome.Unsettled rows e = absurd cc
 
 abbrev block_rows : Outcome → List ℕ → List Row → Block

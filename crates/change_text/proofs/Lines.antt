@@ -1,5 +1,5 @@
 -- Lines of blocks: each says one thing, none holds the byte that ends it.
-use Rattle.std.proofs.Common.{◌≡◌, ◌≢◌, ◌∙◌, ℕ, ◌<◌, ◌^◌, List, [], ◌∷◌, ◌++◌, length, map, get_or, codes, Option, Some, None, All, refl, sym, ap, ap₂, arith, append_assoc, decimal}
+use Rattle.std.proofs.Common.{◌≡◌, ◌≢◌, ◌∙◌, ◌⊎◌, inl, inr, ℕ, ◌<◌, ◌^◌, List, [], ◌∷◌, ◌++◌, length, map, get_or, codes, Option, Some, None, All, refl, sym, ap, ap₂, arith, append_assoc, decimal}
 use Rattle.std.proofs.lemmas.List.{append_cancel_left}
 use Rattle.std.proofs.lemmas.Fmt.{decimal_injective}
 use Rattle.std.proofs.lemmas.List.Elements.{All-append, All-cons, All-head, All-nil, All-tail}
@@ -77,65 +77,90 @@ row_read line front behind id value cut p q = (
 
 -- ---- first lines
 
-settled_lacks : Lacks 32 (codes "settled")
-settled_lacks = lacks_by_test 32 (codes "settled") refl
-
-after_lacks : Lacks 32 (codes "after")
-after_lacks = lacks_by_test 32 (codes "after") refl
-
 unsettled_lacks : Lacks 32 (codes "unsettled")
 unsettled_lacks = lacks_by_test 32 (codes "unsettled") refl
 
 wide : (r : ℕ) → r < 2 ^ 32 → r < 2 ^ 64
 wide r h = omega (arith, h)
 
--- how it is said of a run with a number of rounds, cut at the last blank
+-- how a run ended that isn't unsettled: a word and a number
+abbrev IsShown : Outcome → Type 0
+IsShown o = o ≢ outcome.Unsettled
+
+abbrev how_word : Outcome → List ℕ
+how_word (outcome.Settled r) = codes "settled"
+how_word (outcome.After r) = codes "after"
+how_word (outcome.Phases r) = codes "phases"
+how_word outcome.Unsettled = []
+
+abbrev how_many : Outcome → ℕ
+how_many (outcome.Settled r) = r
+how_many (outcome.After r) = r
+how_many (outcome.Phases r) = r
+how_many outcome.Unsettled = 0
+
+word_has_no_blank : (o : Outcome) → Lacks 32 (how_word o)
+word_has_no_blank (outcome.Settled r) = lacks_by_test 32 (codes "settled") refl
+word_has_no_blank (outcome.After r) = lacks_by_test 32 (codes "after") refl
+word_has_no_blank (outcome.Phases r) = lacks_by_test 32 (codes "phases") refl
+word_has_no_blank outcome.Unsettled = lacks_by_test 32 [] refl
+
+few : (o : Outcome) → IsShown o → IsOutcome o → how_many o < 2 ^ 32
+few (outcome.Settled r) shown is = is
+few (outcome.After r) shown is = is
+few (outcome.Phases r) shown is = is
+few outcome.Unsettled shown is = absurd (shown refl)
+
+many_have_no_blank : (o : Outcome) → IsShown o → IsOutcome o → Lacks 32 (decimal (how_many o))
+many_have_no_blank o shown is = lacks_in 32 (how_many o) not_blank (wide (how_many o) (few o shown is))
+
+-- cut at the last blank
 two : (head how digits : List ℕ) → head ++ 32 ∷ (how ++ 32 ∷ digits) ≡ (head ++ 32 ∷ how) ++ 32 ∷ digits
 two head how digits = sym (append_assoc head (32 ∷ how) (32 ∷ digits))
 
-pub settled_said : (head : List ℕ) (r : ℕ) → said head (outcome.Settled r) ≡ (head ++ 32 ∷ codes "settled") ++ 32 ∷ decimal r
-settled_said head r = two head (codes "settled") (decimal r)
+said_in_two : (head : List ℕ) (o : Outcome) → IsShown o → said head o ≡ (head ++ 32 ∷ how_word o) ++ 32 ∷ decimal (how_many o)
+said_in_two head (outcome.Settled r) shown = two head (codes "settled") (decimal r)
+said_in_two head (outcome.After r) shown = two head (codes "after") (decimal r)
+said_in_two head (outcome.Phases r) shown = two head (codes "phases") (decimal r)
+said_in_two head outcome.Unsettled shown = absurd (shown refl)
 
-pub after_said : (head : List ℕ) (r : ℕ) → said head (outcome.After r) ≡ (head ++ 32 ∷ codes "after") ++ 32 ∷ decimal r
-after_said head r = two head (codes "after") (decimal r)
+digits_cut : (o : Outcome) (bytes head front last : List ℕ) → IsShown o → IsOutcome o → IsCutLast 32 bytes front last → bytes ≡ said head o → (front ≡ head ++ 32 ∷ how_word o) × (last ≡ decimal (how_many o))
+digits_cut o bytes head front last shown is cut e =
+    last_split 32 front (head ++ 32 ∷ how_word o) last (decimal (how_many o)) cut.without (many_have_no_blank o shown is) (sym cut.split ∙ e ∙ said_in_two head o shown)
 
-digits_cut : (r : ℕ) (bytes head how front last : List ℕ) → r < 2 ^ 32 → IsCutLast 32 bytes front last → bytes ≡ (head ++ 32 ∷ how) ++ 32 ∷ decimal r → (front ≡ head ++ 32 ∷ how) × (last ≡ decimal r)
-digits_cut r bytes head how front last low cut e =
-    last_split 32 front (head ++ 32 ∷ how) last (decimal r) cut.without (lacks_in 32 r not_blank (wide r low)) (sym cut.split ∙ e)
-
--- no blank, no rounds, no blank before them, or another word before them
+-- no blank, no number, no blank before it, or another word before it
 pub no_blank : (bytes : List ℕ) → Lacks 32 bytes → ReadsSaid bytes None
 no_blank bytes lacks head outcome is e = has 32 head (outcome_text outcome) bytes lacks e
 
 pub no_rounds : (bytes front last : List ℕ) → IsCutLast 32 bytes front last → ReadsRounds last None → ReadsShown bytes None
-no_rounds bytes front last cut never head r low = (
-  λ e. never r low (digits_cut r bytes head (codes "settled") front last low cut (e ∙ settled_said head r)).1,
-  λ e. never r low (digits_cut r bytes head (codes "after") front last low cut (e ∙ after_said head r)).1,
-)
+no_rounds bytes front last cut never head o shown is e = never (how_many o) (few o shown is) (digits_cut o bytes head front last shown is cut e).1
 
 pub no_word : (bytes front last : List ℕ) → IsCutLast 32 bytes front last → Lacks 32 front → ReadsShown bytes None
-no_word bytes front last cut lacks head r low = (
-  λ e. has 32 head (codes "settled") front lacks (digits_cut r bytes head (codes "settled") front last low cut (e ∙ settled_said head r)).0,
-  λ e. has 32 head (codes "after") front lacks (digits_cut r bytes head (codes "after") front last low cut (e ∙ after_said head r)).0,
-)
+no_word bytes front last cut lacks head o shown is e = has 32 head (how_word o) front lacks (digits_cut o bytes head front last shown is cut e).0
 
-pub other_word : (bytes front last head how : List ℕ) → IsCutLast 32 bytes front last → IsCutLast 32 front head how → how ≢ codes "settled" → how ≢ codes "after" → ReadsShown bytes None
-other_word bytes front last head how cut inner no_settled no_after other r low = (
-  λ e. no_settled (last_split 32 head other how (codes "settled") inner.without settled_lacks (sym inner.split ∙ (digits_cut r bytes other (codes "settled") front last low cut (e ∙ settled_said other r)).0)).1,
-  λ e. no_after (last_split 32 head other how (codes "after") inner.without after_lacks (sym inner.split ∙ (digits_cut r bytes other (codes "after") front last low cut (e ∙ after_said other r)).0)).1,
-)
+another : (o : Outcome) (how : List ℕ) → IsShown o → how ≢ codes "settled" → how ≢ codes "after" → how ≢ codes "phases" → how ≢ how_word o
+another (outcome.Settled r) how shown p q s = p
+another (outcome.After r) how shown p q s = q
+another (outcome.Phases r) how shown p q s = s
+another outcome.Unsettled how shown p q s = absurd (shown refl)
+
+pub other_word : (bytes front last head how : List ℕ) → IsCutLast 32 bytes front last → IsCutLast 32 front head how → how ≢ codes "settled" → how ≢ codes "after" → how ≢ codes "phases" → ReadsShown bytes None
+other_word bytes front last head how cut inner no_settled no_after no_phases other o shown is e =
+    another o how shown no_settled no_after no_phases
+    (last_split 32 head other how (how_word o) inner.without (word_has_no_blank o) (sym inner.split ∙ (digits_cut o bytes other front last shown is cut e).0)).1
+
+read_in_two : (bytes front last head how : List ℕ) (o : Outcome) → IsShown o → IsCutLast 32 bytes front last → last ≡ decimal (how_many o) → IsCutLast 32 front head how → how ≡ how_word o → bytes ≡ said head o
+read_in_two bytes front last head how o shown cut p inner is =
+    cut.split ∙ ap₂ (λ (a b : List ℕ). a ++ 32 ∷ b) (inner.split ∙ ap (λ (w : List ℕ). head ++ 32 ∷ w) is) p ∙ sym (said_in_two head o shown)
 
 pub settled_read : (bytes front last head how : List ℕ) (r : ℕ) → IsCutLast 32 bytes front last → ReadsRounds last (Some r) → IsCutLast 32 front head how → how ≡ codes "settled" → ReadsShown bytes (Some (head, outcome.Settled r))
-settled_read bytes front last head how r cut p inner is = (
-  p.0,
-  cut.split ∙ ap₂ (λ (a b : List ℕ). a ++ 32 ∷ b) (inner.split ∙ ap (λ (w : List ℕ). head ++ 32 ∷ w) is) p.1 ∙ sym (settled_said head r),
-)
+settled_read bytes front last head how r cut p inner is = (p.0, read_in_two bytes front last head how (outcome.Settled r) (λ e. absurd cc) cut p.1 inner is)
 
 pub after_read : (bytes front last head how : List ℕ) (r : ℕ) → IsCutLast 32 bytes front last → ReadsRounds last (Some r) → IsCutLast 32 front head how → how ≡ codes "after" → ReadsShown bytes (Some (head, outcome.After r))
-after_read bytes front last head how r cut p inner is = (
-  p.0,
-  cut.split ∙ ap₂ (λ (a b : List ℕ). a ++ 32 ∷ b) (inner.split ∙ ap (λ (w : List ℕ). head ++ 32 ∷ w) is) p.1 ∙ sym (after_said head r),
-)
+after_read bytes front last head how r cut p inner is = (p.0, read_in_two bytes front last head how (outcome.After r) (λ e. absurd cc) cut p.1 inner is)
+
+pub phases_read : (bytes front last head how : List ℕ) (r : ℕ) → IsCutLast 32 bytes front last → ReadsRounds last (Some r) → IsCutLast 32 front head how → how ≡ codes "phases" → ReadsShown bytes (Some (head, outcome.Phases r))
+phases_read bytes front last head how r cut p inner is = (p.0, read_in_two bytes front last head how (outcome.Phases r) (λ e. absurd cc) cut p.1 inner is)
 
 pub unsettled_read : (bytes front last : List ℕ) → IsCutLast 32 bytes front last → last ≡ codes "unsettled" → ReadsSaid bytes (Some (front, outcome.Unsettled))
 unsettled_read bytes front last cut is = (tt, cut.split ∙ ap (λ (w : List ℕ). front ++ 32 ∷ w) is)
@@ -144,8 +169,9 @@ pub shown_read : (bytes : List ℕ) (p : List ℕ × Outcome) → ReadsShown byt
 shown_read bytes p h = h
 
 pub not_said : (bytes front last : List ℕ) → IsCutLast 32 bytes front last → last ≢ codes "unsettled" → ReadsShown bytes None → ReadsSaid bytes None
-not_said bytes front last cut ne never head (outcome.Settled r) is e = (never head r is).0 e
-not_said bytes front last cut ne never head (outcome.After r) is e = (never head r is).1 e
+not_said bytes front last cut ne never head (outcome.Settled r) is e = never head (outcome.Settled r) (λ f. absurd cc) is e
+not_said bytes front last cut ne never head (outcome.After r) is e = never head (outcome.After r) (λ f. absurd cc) is e
+not_said bytes front last cut ne never head (outcome.Phases r) is e = never head (outcome.Phases r) (λ f. absurd cc) is e
 not_said bytes front last cut ne never head outcome.Unsettled is e =
     ne (last_split 32 front head last (codes "unsettled") cut.without unsettled_lacks (sym cut.split ∙ e)).1
 
@@ -159,37 +185,49 @@ said_by bytes front last (Some p) cut ne h = h
 no_letter : (n : ℕ) → n < 2 ^ 64 → codes "unsettled" ≡ decimal n → ⊥
 no_letter n low e = lacks_in 117 n (λ r. omega (arith, r.1)) low 0 0 (omega (arith, ap length e)) (sym (ap (λ (xs : List ℕ). get_or xs 0 0) e))
 
+-- the word and the number say how the run ended
+by_word : (o p : Outcome) → IsShown o → IsShown p → how_word o ≡ how_word p → how_many o ≡ how_many p → o ≡ p
+by_word (outcome.Settled r) (outcome.Settled s) x y e f = ap (λ (n : ℕ). outcome.Settled n) f
+by_word (outcome.Settled r) (outcome.After s) x y e f = absurd (omega (arith, same_head e))
+by_word (outcome.Settled r) (outcome.Phases s) x y e f = absurd (omega (arith, same_head e))
+by_word (outcome.After r) (outcome.Settled s) x y e f = absurd (omega (arith, same_head e))
+by_word (outcome.After r) (outcome.After s) x y e f = ap (λ (n : ℕ). outcome.After n) f
+by_word (outcome.After r) (outcome.Phases s) x y e f = absurd (omega (arith, same_head e))
+by_word (outcome.Phases r) (outcome.Settled s) x y e f = absurd (omega (arith, same_head e))
+by_word (outcome.Phases r) (outcome.After s) x y e f = absurd (omega (arith, same_head e))
+by_word (outcome.Phases r) (outcome.Phases s) x y e f = ap (λ (n : ℕ). outcome.Phases n) f
+by_word outcome.Unsettled p x y e f = absurd (x refl)
+by_word (outcome.Settled r) outcome.Unsettled x y e f = absurd (y refl)
+by_word (outcome.After r) outcome.Unsettled x y e f = absurd (y refl)
+by_word (outcome.Phases r) outcome.Unsettled x y e f = absurd (y refl)
+
+both_shown : (a b : List ℕ) (o p : Outcome) → IsShown o → IsShown p → IsOutcome o → IsOutcome p → said a o ≡ said b p → (a ≡ b) × (o ≡ p)
+both_shown a b o p x y is it e =
+    let cut = last_split 32 (a ++ 32 ∷ how_word o) (b ++ 32 ∷ how_word p) (decimal (how_many o)) (decimal (how_many p)) (many_have_no_blank o x is) (many_have_no_blank p y it) (sym (said_in_two a o x) ∙ e ∙ said_in_two b p y) in
+    let inner = last_split 32 a b (how_word o) (how_word p) (word_has_no_blank o) (word_has_no_blank p) cut.0 in
+    (inner.0, by_word o p x y inner.1 (decimal_injective (how_many o) (how_many p) (wide (how_many o) (few o x is)) (wide (how_many p) (few p y it)) cut.1))
+
+one_shown : (a b : List ℕ) (p : Outcome) → IsShown p → IsOutcome p → said a outcome.Unsettled ≡ said b p → ⊥
+one_shown a b p y it e =
+    let cut = last_split 32 a (b ++ 32 ∷ how_word p) (codes "unsettled") (decimal (how_many p)) unsettled_lacks (many_have_no_blank p y it) (e ∙ said_in_two b p y) in
+    no_letter (how_many p) (wide (how_many p) (few p y it)) cut.1
+
+shown_or : (o : Outcome) → (o ≡ outcome.Unsettled) ⊎ IsShown o
+shown_or (outcome.Settled r) = inr (λ e. absurd cc)
+shown_or (outcome.After r) = inr (λ e. absurd cc)
+shown_or (outcome.Phases r) = inr (λ e. absurd cc)
+shown_or outcome.Unsettled = inl refl
+
+same_by : (a b : List ℕ) (o p : Outcome) → (o ≡ outcome.Unsettled) ⊎ IsShown o → (p ≡ outcome.Unsettled) ⊎ IsShown p → IsOutcome o → IsOutcome p → said a o ≡ said b p → (a ≡ b) × (o ≡ p)
+same_by a b o p (inr x) (inr y) is it e = both_shown a b o p x y is it e
+same_by a b o p (inl x) (inr y) is it e = absurd (one_shown a b p y it (ap (said a) (sym x) ∙ e))
+same_by a b o p (inr x) (inl y) is it e = absurd (one_shown b a o x is (ap (said b) (sym y) ∙ sym e))
+same_by a b o p (inl x) (inl y) is it e =
+    let cut = last_split 32 a b (codes "unsettled") (codes "unsettled") unsettled_lacks unsettled_lacks (ap (said a) (sym x) ∙ e ∙ ap (said b) y) in
+    (cut.0, x ∙ sym y)
+
 same_outcome_text : (a b : List ℕ) (o p : Outcome) → IsOutcome o → IsOutcome p → said a o ≡ said b p → (a ≡ b) × (o ≡ p)
-same_outcome_text a b (outcome.Settled r) (outcome.Settled s) p q e =
-    let cut = last_split 32 (a ++ 32 ∷ codes "settled") (b ++ 32 ∷ codes "settled") (decimal r) (decimal s) (lacks_in 32 r not_blank (wide r p)) (lacks_in 32 s not_blank (wide s q)) (sym (settled_said a r) ∙ e ∙ settled_said b s) in
-    let inner = last_split 32 a b (codes "settled") (codes "settled") settled_lacks settled_lacks cut.0 in
-    (inner.0, ap (λ (n : ℕ). outcome.Settled n) (decimal_injective r s (wide r p) (wide s q) cut.1))
-same_outcome_text a b (outcome.Settled r) (outcome.After s) p q e =
-    let cut = last_split 32 (a ++ 32 ∷ codes "settled") (b ++ 32 ∷ codes "after") (decimal r) (decimal s) (lacks_in 32 r not_blank (wide r p)) (lacks_in 32 s not_blank (wide s q)) (sym (settled_said a r) ∙ e ∙ after_said b s) in
-    let inner = last_split 32 a b (codes "settled") (codes "after") settled_lacks after_lacks cut.0 in
-    absurd (omega (arith, same_head inner.1))
-same_outcome_text a b (outcome.After r) (outcome.Settled s) p q e =
-    let cut = last_split 32 (a ++ 32 ∷ codes "after") (b ++ 32 ∷ codes "settled") (decimal r) (decimal s) (lacks_in 32 r not_blank (wide r p)) (lacks_in 32 s not_blank (wide s q)) (sym (after_said a r) ∙ e ∙ settled_said b s) in
-    let inner = last_split 32 a b (codes "after") (codes "settled") after_lacks settled_lacks cut.0 in
-    absurd (omega (arith, same_head inner.1))
-same_outcome_text a b (outcome.After r) (outcome.After s) p q e =
-    let cut = last_split 32 (a ++ 32 ∷ codes "after") (b ++ 32 ∷ codes "after") (decimal r) (decimal s) (lacks_in 32 r not_blank (wide r p)) (lacks_in 32 s not_blank (wide s q)) (sym (after_said a r) ∙ e ∙ after_said b s) in
-    let inner = last_split 32 a b (codes "after") (codes "after") after_lacks after_lacks cut.0 in
-    (inner.0, ap (λ (n : ℕ). outcome.After n) (decimal_injective r s (wide r p) (wide s q) cut.1))
-same_outcome_text a b outcome.Unsettled outcome.Unsettled p q e =
-    let cut = last_split 32 a b (codes "unsettled") (codes "unsettled") unsettled_lacks unsettled_lacks e in (cut.0, refl)
-same_outcome_text a b outcome.Unsettled (outcome.Settled s) p q e =
-    let cut = last_split 32 a (b ++ 32 ∷ codes "settled") (codes "unsettled") (decimal s) unsettled_lacks (lacks_in 32 s not_blank (wide s q)) (e ∙ settled_said b s) in
-    absurd (no_letter s (wide s q) cut.1)
-same_outcome_text a b outcome.Unsettled (outcome.After s) p q e =
-    let cut = last_split 32 a (b ++ 32 ∷ codes "after") (codes "unsettled") (decimal s) unsettled_lacks (lacks_in 32 s not_blank (wide s q)) (e ∙ after_said b s) in
-    absurd (no_letter s (wide s q) cut.1)
-same_outcome_text a b (outcome.Settled r) outcome.Unsettled p q e =
-    let cut = last_split 32 (a ++ 32 ∷ codes "settled") b (decimal r) (codes "unsettled") (lacks_in 32 r not_blank (wide r p)) unsettled_lacks (sym (settled_said a r) ∙ e) in
-    absurd (no_letter r (wide r p) (sym cut.1))
-same_outcome_text a b (outcome.After r) outcome.Unsettled p q e =
-    let cut = last_split 32 (a ++ 32 ∷ codes "after") b (decimal r) (codes "unsettled") (lacks_in 32 r not_blank (wide r p)) unsettled_lacks (sym (after_said a r) ∙ e) in
-    absurd (no_letter r (wide r p) (sym cut.1))
+same_outcome_text a b o p is it e = same_by a b o p (shown_or o) (shown_or p) is it e
 
 pub same_opening : (k l : Kind) (a b : List ℕ) (o p : Outcome) → IsOutcome o → IsOutcome p → opening_line k a o ≡ opening_line l b p → (k ≡ l) × (a ≡ b) × (o ≡ p)
 same_opening kind.Full kind.Full a b o p x y e = let r = same_outcome_text a b o p x y (append_cancel_left (codes "view ") (said a o) (said b p) e) in (refl, r.0, r.1)
@@ -200,6 +238,7 @@ same_opening kind.Change kind.Change a b o p x y e = let r = same_outcome_text a
 outcome_lacks : (o : Outcome) → IsOutcome o → Lacks 10 (outcome_text o)
 outcome_lacks (outcome.Settled r) is = lacks_append 10 (codes "settled ") (decimal r) (lacks_by_test 10 (codes "settled ") refl) (lacks_in 10 r not_end (wide r is))
 outcome_lacks (outcome.After r) is = lacks_append 10 (codes "after ") (decimal r) (lacks_by_test 10 (codes "after ") refl) (lacks_in 10 r not_end (wide r is))
+outcome_lacks (outcome.Phases r) is = lacks_append 10 (codes "phases ") (decimal r) (lacks_by_test 10 (codes "phases ") refl) (lacks_in 10 r not_end (wide r is))
 outcome_lacks outcome.Unsettled is = lacks_by_test 10 (codes "unsettled") refl
 
 word_lacks : (k : Kind) → Lacks 10 (word k)

@@ -34,20 +34,32 @@ opens_nothing blocks line are never = refused_opening blocks line are (λ b is f
 may_both : (x y : Outcome) → x ≢ outcome.Unsettled → y ≢ outcome.Unsettled → may_change (Some x) y ≡ true
 may_both (outcome.Settled r) (outcome.Settled s) p q = refl
 may_both (outcome.Settled r) (outcome.After s) p q = refl
+may_both (outcome.Settled r) (outcome.Phases s) p q = refl
 may_both (outcome.After r) (outcome.Settled s) p q = refl
 may_both (outcome.After r) (outcome.After s) p q = refl
+may_both (outcome.After r) (outcome.Phases s) p q = refl
+may_both (outcome.Phases r) (outcome.Settled s) p q = refl
+may_both (outcome.Phases r) (outcome.After s) p q = refl
+may_both (outcome.Phases r) (outcome.Phases s) p q = refl
 may_both outcome.Unsettled y p q = absurd (p refl)
 may_both (outcome.Settled r) outcome.Unsettled p q = absurd (q refl)
 may_both (outcome.After r) outcome.Unsettled p q = absurd (q refl)
+may_both (outcome.Phases r) outcome.Unsettled p q = absurd (q refl)
 
 both_may : (x y : Outcome) → may_change (Some x) y ≡ true → (x ≢ outcome.Unsettled) × (y ≢ outcome.Unsettled)
 both_may (outcome.Settled r) (outcome.Settled s) e = (λ f. absurd cc, λ f. absurd cc)
 both_may (outcome.Settled r) (outcome.After s) e = (λ f. absurd cc, λ f. absurd cc)
+both_may (outcome.Settled r) (outcome.Phases s) e = (λ f. absurd cc, λ f. absurd cc)
 both_may (outcome.After r) (outcome.Settled s) e = (λ f. absurd cc, λ f. absurd cc)
 both_may (outcome.After r) (outcome.After s) e = (λ f. absurd cc, λ f. absurd cc)
+both_may (outcome.After r) (outcome.Phases s) e = (λ f. absurd cc, λ f. absurd cc)
+both_may (outcome.Phases r) (outcome.Settled s) e = (λ f. absurd cc, λ f. absurd cc)
+both_may (outcome.Phases r) (outcome.After s) e = (λ f. absurd cc, λ f. absurd cc)
+both_may (outcome.Phases r) (outcome.Phases s) e = (λ f. absurd cc, λ f. absurd cc)
 both_may outcome.Unsettled y e = absurd cc
 both_may (outcome.Settled r) outcome.Unsettled e = absurd cc
 both_may (outcome.After r) outcome.Unsettled e = absurd cc
+both_may (outcome.Phases r) outcome.Unsettled e = absurd cc
 
 stands : (k : Kind) (before : Option Block) (b : Block) → FollowsAs k before b → may_stand (last_outcome before) k b.outcome ≡ true
 stands kind.Full before b f = refl
@@ -71,6 +83,7 @@ stands_nowhere blocks line head k o are opens never =
 none_has_rows : (o : Outcome) → HasRows o []
 none_has_rows (outcome.Settled r) = tt
 none_has_rows (outcome.After r) = tt
+none_has_rows (outcome.Phases r) = tt
 none_has_rows outcome.Unsettled = refl
 
 keeps_first : (k : Kind) (before : Option Block) (table : List Row) → table ≡ last_rows before → KeepsTable k before [] table 0
@@ -147,6 +160,7 @@ some_rows (r ∷ rs) row rest e = cc
 no_rows : (o : Outcome) (rows : List Row) (row : Row) (rest : List Row) → has_rows o ≡ false → HasRows o (rows ++ row ∷ rest) → ⊥
 no_rows (outcome.Settled r) rows row rest e h = cc
 no_rows (outcome.After r) rows row rest e h = cc
+no_rows (outcome.Phases r) rows row rest e h = cc
 no_rows outcome.Unsettled rows row rest e h = some_rows rows row rest h
 
 -- an unsettled block has no rows
@@ -168,6 +182,7 @@ same_value_row before b row table after place is le keeps brings rest more follo
 rows_allowed : (o : Outcome) (rows more : List Row) → has_rows o ≡ true → HasRows o rows → HasRows o more
 rows_allowed (outcome.Settled r) rows more e h = tt
 rows_allowed (outcome.After r) rows more e h = tt
+rows_allowed (outcome.Phases r) rows more e h = tt
 rows_allowed outcome.Unsettled rows more e h = absurd cc
 
 follows_more : (k : Kind) (before : Option Block) (b : Block) (row : Row) (table after : List Row) (place : ℕ) (next : ℕ) → All (λ r. r.id < row.id) b.rows → KeepsTable k before b.rows table place → FollowsAs k before b

@@ -46,6 +46,7 @@ lines_of graph values (n ∷ ns) = ap₂ (λ (a b : List ℕ). a ++ b) (value_li
 rows_are : (graph : GraphData) (o : Outcome) (values : List Val) → rows graph o values ≡ ended (map row_line (table_rows graph o values))
 rows_are graph (outcome.Settled r) values = lines_of graph values (nodes_by_id graph.ids)
 rows_are graph (outcome.After r) values = lines_of graph values (nodes_by_id graph.ids)
+rows_are graph (outcome.Phases r) values = lines_of graph values (nodes_by_id graph.ids)
 rows_are graph outcome.Unsettled values = refl
 
 full_text : (head : List ℕ) (graph : GraphData) (table : Table) → IsTableHead head

@@ -56,6 +56,7 @@ IsHead head = (head ≢ []) × IsLine head
 abbrev pub IsOutcome : Outcome → Type 0
 IsOutcome (outcome.Settled r) = r < 2 ^ 32
 IsOutcome (outcome.After r) = r < 2 ^ 32
+IsOutcome (outcome.Phases r) = r < 2 ^ 32
 IsOutcome outcome.Unsettled = Unit {0}
 
 -- none, or a whole number from -(2^63 - 1) to 2^63 - 1
@@ -76,6 +77,7 @@ IsRising (r ∷ rs) = All (λ s. r.id < s.id) rs × IsRising rs
 abbrev pub HasRows : Outcome → List Row → Type 0
 HasRows (outcome.Settled r) rows = Unit {0}
 HasRows (outcome.After r) rows = Unit {0}
+HasRows (outcome.Phases r) rows = Unit {0}
 HasRows outcome.Unsettled rows = rows ≡ []
 
 pub record IsBlock (b : Block) : Type 0 where
@@ -94,7 +96,7 @@ value_at (r ∷ rs) id = if r.id == id then Some r.value else value_at rs id
 abbrev pub Differs : List Row → Row → Type 0
 Differs rows row = (value : Val) × (value_at rows row.id ≡ Some value) × (value ≢ row.value)
 
--- a change block stands behind a table, both are settled or after a number of rounds, and each of its rows differs
+-- a change block stands behind a table, neither of them is unsettled, and each of its rows differs
 abbrev pub FollowsAs : Kind → Option Block → Block → Type 0
 FollowsAs kind.Full before b = Unit {0}
 FollowsAs kind.Change None b = ⊥

@@ -55,7 +55,7 @@ abbrev pub ReadsRow : List ℕ → Option Row → Type 0
 ReadsRow line None = (row : Row) → IsRow row → line ≡ row_line row → ⊥
 ReadsRow line (Some row) = IsRow row × (line ≡ row_line row)
 
--- so many rounds, below 2^32
+-- so many rounds or phases, below 2^32
 abbrev pub ReadsRounds : List ℕ → Option ℕ → Type 0
 ReadsRounds bytes None = (n : ℕ) → n < 2 ^ 32 → bytes ≡ decimal n → ⊥
 ReadsRounds bytes (Some n) = (n < 2 ^ 32) × (bytes ≡ decimal n)
@@ -64,9 +64,9 @@ ReadsRounds bytes (Some n) = (n < 2 ^ 32) × (bytes ≡ decimal n)
 abbrev pub said : List ℕ → Outcome → List ℕ
 said head outcome = head ++ 32 ∷ outcome_text outcome
 
--- the same, of a run that is settled or after so many rounds
+-- the same, of a run that is settled or after so many rounds or phases
 abbrev pub ReadsShown : List ℕ → Option (List ℕ × Outcome) → Type 0
-ReadsShown bytes None = (head : List ℕ) (r : ℕ) → r < 2 ^ 32 → (bytes ≡ said head (outcome.Settled r) → ⊥) × (bytes ≡ said head (outcome.After r) → ⊥)
+ReadsShown bytes None = (head : List ℕ) (how : Outcome) → how ≢ outcome.Unsettled → IsOutcome how → bytes ≡ said head how → ⊥
 ReadsShown bytes (Some p) = IsOutcome p.1 × (bytes ≡ said p.0 p.1)
 
 abbrev pub ReadsSaid : List ℕ → Option (List ℕ × Outcome) → Type 0
@@ -184,9 +184,15 @@ may_change (Some outcome.Unsettled) outcome = false
 may_change (Some (outcome.Settled r)) outcome.Unsettled = false
 may_change (Some (outcome.Settled r)) (outcome.Settled s) = true
 may_change (Some (outcome.Settled r)) (outcome.After s) = true
+may_change (Some (outcome.Settled r)) (outcome.Phases s) = true
 may_change (Some (outcome.After r)) outcome.Unsettled = false
 may_change (Some (outcome.After r)) (outcome.Settled s) = true
 may_change (Some (outcome.After r)) (outcome.After s) = true
+may_change (Some (outcome.After r)) (outcome.Phases s) = true
+may_change (Some (outcome.Phases r)) outcome.Unsettled = false
+may_change (Some (outcome.Phases r)) (outcome.Settled s) = true
+may_change (Some (outcome.Phases r)) (outcome.After s) = true
+may_change (Some (outcome.Phases r)) (outcome.Phases s) = true
 
 abbrev pub may_stand : Option Outcome → Kind → Outcome → Bool
 may_stand before kind.Full outcome = true
@@ -195,6 +201,7 @@ may_stand before kind.Change outcome = may_change before outcome
 abbrev pub has_rows : Outcome → Bool
 has_rows (outcome.Settled r) = true
 has_rows (outcome.After r) = true
+has_rows (outcome.Phases r) = true
 has_rows outcome.Unsettled = false
 
 -- in an open change the rows that were passed have lower ids than the next

@@ -26,6 +26,7 @@ IsTableHead head = take 5 head ≡ codes "view "
 abbrev pub is_shown : Outcome → Bool
 is_shown (outcome.Settled r) = true
 is_shown (outcome.After r) = true
+is_shown (outcome.Phases r) = true
 is_shown outcome.Unsettled = false
 
 -- a change where both tables have rows
@@ -41,6 +42,7 @@ row_of graph values n = record { id = id_of graph n.0; value = get_or values n.0
 abbrev pub table_rows : GraphData → Outcome → List Val → List Row
 table_rows graph (outcome.Settled r) values = map (row_of graph values) (nodes_by_id graph.ids)
 table_rows graph (outcome.After r) values = map (row_of graph values) (nodes_by_id graph.ids)
+table_rows graph (outcome.Phases r) values = map (row_of graph values) (nodes_by_id graph.ids)
 table_rows graph outcome.Unsettled values = []
 
 -- whether a node has another value than before

@@ -16,7 +16,7 @@ pub(crate) struct Opening<'a> {
     pub(crate) outcome: Outcome,
 }
 
-// The number of rounds, below 2^32, that these bytes spell.
+// The number of rounds or phases, below 2^32, that these bytes spell.
 fn rounds_of(digits: &[u8]) -> Option<u32>
     ensures { ReadsRounds digits.now result }
 {
@@ -56,7 +56,7 @@ fn cut_last(bytes: &[u8], at: u8) -> Option<(&[u8], &[u8])>
     Some((front, behind))
 }
 
-// What is said of a run that is settled or after a number of rounds, cut at the last blank.
+// What is said of a run that is settled or after a number of rounds or phases, cut at the last blank.
 fn shown_in<'a>(bytes: &[u8], front: &'a [u8], last: &[u8]) -> Option<(&'a [u8], Outcome)>
     requires { IsCutLast 32 bytes.now front.now last.now }
     ensures { ReadsShown bytes.now (held_said result) }
@@ -72,6 +72,9 @@ fn shown_in<'a>(bytes: &[u8], front: &'a [u8], last: &[u8]) -> Option<(&'a [u8],
     }
     if how == b"after".as_slice() {
         return Some((head, Outcome::After(rounds)));
+    }
+    if how == b"phases".as_slice() {
+        return Some((head, Outcome::Phases(rounds)));
     }
     None
 }

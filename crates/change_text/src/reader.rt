@@ -46,6 +46,7 @@ fn may_change(before: Option<Outcome>, outcome: Outcome) -> bool
         (Some(Outcome::Unsettled), _) => false,
         (Some(Outcome::Settled(_)), Outcome::Unsettled) => false,
         (Some(Outcome::After(_)), Outcome::Unsettled) => false,
+        (Some(Outcome::Phases(_)), Outcome::Unsettled) => false,
         _ => true,
     }
 }
@@ -67,6 +68,7 @@ fn has_rows(outcome: Outcome) -> bool
     match outcome {
         Outcome::Settled(_) => true,
         Outcome::After(_) => true,
+        Outcome::Phases(_) => true,
         Outcome::Unsettled => false,
     }
 }

@@ -23,7 +23,7 @@ fn bad_line(alloc: Global, text: &[u8]) -> Result<u32, Fail>
 
 // ---- texts, and their first bad lines
 
-const TEXTS: [(&[u8], u32); 26] = [
+const TEXTS: [(&[u8], u32); 28] = [
     (b"", 0),
     (b"change C.b x settled 1\nend\n", 1),
     (
@@ -56,6 +56,11 @@ const TEXTS: [(&[u8], u32); 26] = [
     (b"view x settled 4294967295\nend\n", 0),
     (b"view x settled 4294967296\nend\n", 1),
     (b"view  settled 1\nend\n", 1),
+    (
+        b"view x phases 7\nend\nchange x phases 4294967295\nend\n",
+        0,
+    ),
+    (b"view x phases 4294967296\nend\n", 1),
     (b"view a settled 1 after 2 unsettled unsettled\nend\n", 0),
     (b"view x settled 1\nend", 2),
     (b"view x settled 1\nend\n\n", 3),
@@ -226,7 +231,7 @@ fn a_first_block(rt: HostRuntime) -> Result<(), Fail> {
 }
 
 // Two tables, and the block of the second behind the first.
-const BEHIND: [(Outcome, Val, Outcome, Val, &[u8]); 5] = [
+const BEHIND: [(Outcome, Val, Outcome, Val, &[u8]); 6] = [
     (
         Outcome::Settled(1),
         HIGH,
@@ -247,6 +252,13 @@ const BEHIND: [(Outcome, Val, Outcome, Val, &[u8]); 5] = [
         Outcome::After(20),
         LOW,
         b"change C.v hops(3) after 20\nend\n",
+    ),
+    (
+        Outcome::Phases(2),
+        Val::Nil,
+        Outcome::Phases(3),
+        HIGH,
+        b"change C.v hops(3) phases 3\n3,9223372036854775807\nend\n",
     ),
     (
         Outcome::Unsettled,

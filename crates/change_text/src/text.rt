@@ -42,6 +42,10 @@ fn push_outcome(text: &mut Vec<u8>, outcome: Outcome) -> Result<(), NoMemory>
             text.extend_from_slice(b"after ")?;
             push_decimal(text, rounds)
         }
+        Outcome::Phases(phases) => {
+            text.extend_from_slice(b"phases ")?;
+            push_decimal(text, phases)
+        }
         Outcome::Unsettled => {
             text.extend_from_slice(b"unsettled")?;
             Ok(())

@@ -26,6 +26,7 @@ fn is_shown(outcome: Outcome) -> bool
     match outcome {
         Outcome::Settled(_) => true,
         Outcome::After(_) => true,
+        Outcome::Phases(_) => true,
         Outcome::Unsettled => false,
     }
 }

@@ -87,6 +87,7 @@ AreComponents graph arcs values = (v : ℕ) → v < length graph.ids → IsLeast
 abbrev pub IsSettled : Outcome → Type 0
 IsSettled (outcome.Settled r) = Unit {0}
 IsSettled (outcome.After r) = ⊥
+IsSettled (outcome.Phases r) = ⊥
 IsSettled outcome.Unsettled = ⊥
 
 -- the run goes on until nothing changes, for as many rounds as there are nodes or more

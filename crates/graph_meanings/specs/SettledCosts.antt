@@ -130,6 +130,7 @@ module _ (p : Program) (graph : GraphData) (arcs : List Arc) (are_arcs : All (Is
   settles-in : (n : ℕ) (o : Outcome) (vs : List Val) → OutcomeIs (lone updated p graph arcs) n o vs → 1 ≤ n → length graph.ids ≤ n → IsSettled o
   settles-in n (outcome.Settled r) vs h some enough = tt
   settles-in n (outcome.After r) vs h some enough = absurd h
+  settles-in n (outcome.Phases r) vs h some enough = absurd h
   settles-in n outcome.Unsettled vs h some enough = absurd (h.0 (n - 1) (omega arith) (stable (n - 1) (omega arith)))
 
   settles-from : (limit : Rounds) (l : Lone) → IsAnswerFrom (lone updated p graph arcs) limit l → 1 ≤ number_of limit → HasRoundsForAll graph limit → IsSettled l.outcome
@@ -174,6 +175,7 @@ module _ (p : Program) (graph : GraphData) (arcs : List Arc) (are_arcs : All (Is
   means-in : AreSmall → (n : ℕ) (o : Outcome) (vs : List Val) → OutcomeIs (lone updated p graph arcs) n o vs → IsSettled o → (v : ℕ) → v < length graph.ids → IsLeastOf (AnyCost v) (value_at vs v)
   means-in small n (outcome.Settled r) vs h settled v low = subst (λ (us : List Val). IsLeastOf (AnyCost v) (value_at us v)) (sym h.1) (exact small v _ (fixed-least r v h.0.settled low))
   means-in small n (outcome.After r) vs h settled v low = absurd h
+  means-in small n (outcome.Phases r) vs h settled v low = absurd h
   means-in small n outcome.Unsettled vs h settled v low = absurd settled
 
   means-from : AreSmall → (limit : Rounds) (l : Lone) → IsAnswerFrom (lone updated p graph arcs) limit l → IsSettled l.outcome → (v : ℕ) → v < length graph.ids → IsLeastOf (AnyCost v) (value_at l.values v)

@@ -14,6 +14,3 @@ mod quick_steps;
 mod values;
 
 pub use quick_steps::QuickSteps;
-
-#[cfg(test)]
-mod tests;

@@ -3,11 +3,12 @@
 ghost use Rattle.std.specs.Prelude.{◌≡◌, ◌<◌, ◌+◌};
 
 use crate::form::{Form, form_of};
-use crate::values::{damped, lesser_of};
+use crate::values::damped;
 use graph_model::Val;
 use std::marker::Model;
 use std::sync::ledger::{Blank, Ledger};
 use surge_outside::{Counted, Steps};
+use vertex_lang::arithmetic::{clamp, lesser_of};
 use vertex_lang::{Program, Updater, eval};
 
 /// Computes the updates of programs, and counts them for contracts alone: it takes no bytes. Updates of the commonest
@@ -68,7 +69,7 @@ impl<L: Ledger> Updater for QuickSteps<L> {
         count: u64,
     ) -> Val {
         match form_of(&program.update) {
-            Form::Least => self.counted(lesser_of(start, gathered)),
+            Form::Least => self.counted(clamp(lesser_of(start, gathered))),
             Form::Damped(damping) => self.counted(damped(gathered, damping)),
             Form::Other => eval(program, id, start, value, gathered, count, &mut self.steps),
         }

@@ -13,7 +13,7 @@ use Rattle.graph_model.specs.declared.number.NodeNo.{NodeNo}
 use Rattle.graph_model.specs.declared.number.ViewNo.{ViewNo}
 use Rattle.graph_model.specs.declared.value.Val.{Val}
 use Rattle.vertex_lang.specs.declared.lone.Outcome.{Outcome}
-use Rattle.vertex_lang.specs.declared.lone.Outcome.TheVariants.{Settled, After, Unsettled}
+use Rattle.vertex_lang.specs.declared.lone.Outcome.TheVariants.{Settled, After, Phases, Unsettled}
 use Rattle.result_tables.specs.declared.entries.Difference.{Difference}
 use Rattle.result_tables.specs.declared.entries.Entry.{Entry}
 use Rattle.result_tables.specs.declared.entries.Kept.{Kept}
@@ -206,6 +206,7 @@ its_table es place e values are low is shows =
 pub size_shown : (n : ℕ) (o : Outcome) (values : List Val) → length values ≡ n → HasValues n o (shown o values)
 size_shown n (Settled r) values size = size
 size_shown n (After r) values size = size
+size_shown n (Phases r) values size = size
 size_shown n Unsettled values size = tt
 
 pub table_found : (es : Entries) (view : ViewNo) (place : ℕ) → position (λ e. e.view.0 == view.0) es.list.items ≡ Some place → table_on (data_of es) view ≡ table_at es.list.items place

@@ -1,12 +1,14 @@
 -- What follows from the definitions, each law as one statement, and proofs of them that the rooms above can cite.
-use Rattle.std.specs.Prelude.{◌≡◌, ◌≢◌, List, length, Option, Some, None}
+use Rattle.std.specs.Prelude.{◌≡◌, ◌≢◌, ℕ, ◌<◌, List, length, Option, Some, None}
 use Rattle.std.specs.List.{range_with_len}
 use Rattle.std.proofs.Common.{sym, ap, ◌∙◌, arith}
 use Rattle.graph_model.specs.declared.number.NodeNo.{NodeNo}
 use Rattle.graph_model.specs.declared.number.ViewNo.{ViewNo}
 use Rattle.graph_model.specs.declared.value.Val.{Val}
+use Rattle.graph_model.specs.GraphData.{GraphData, nodes_by_id, AreDistinct}
 use Rattle.vertex_lang.specs.declared.lone.Outcome.{Outcome}
 use Rattle.result_tables.specs.Results.{Held, ResultsData, IsChange, IsNew, assigned, held_on, values_after, values_of, with_answer}
+use Rattle.result_tables.specs.IdOrder.{id_at, at_places}
 use Rattle.result_tables.specs.Changes.{all_from, changes_from}
 use Rattle.result_tables.specs.ChangeLaws.{all_values, all_nodes, changes_lead, changes_within, held_itself, held_others}
 
@@ -47,3 +49,10 @@ OthersStay =
 
 pub others_stay : OthersStay
 others_stay m view other before outcome change ne = held_others m.held (record { view = view; outcome = outcome; values = values_after m before change }) other ne
+
+-- where the ids of a graph are distinct, the ids of its nodes in the order of a table rise strictly
+abbrev pub IdsRise : Type 0
+IdsRise = (g : GraphData) (i j : ℕ) → AreDistinct g.ids → i < j → j < length (nodes_by_id g.ids) → id_at g i < id_at g j
+
+pub ids_rise : IdsRise
+ids_rise g i j distinct before within = at_places g i j distinct before within

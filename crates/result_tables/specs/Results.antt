@@ -67,6 +67,7 @@ with_answer m view before outcome change =
 abbrev pub shown : Outcome → List Val → List Val
 shown (outcome.Settled r) values = values
 shown (outcome.After n) values = values
+shown (outcome.Phases m) values = values
 shown outcome.Unsettled values = []
 
 abbrev pub table_held : Held → Table
@@ -80,4 +81,5 @@ table_on m view = option_map table_held (held_on m view)
 abbrev pub HasValues : ℕ → Outcome → List Val → Type 0
 HasValues nodes (outcome.Settled r) values = length values ≡ nodes
 HasValues nodes (outcome.After n) values = length values ≡ nodes
+HasValues nodes (outcome.Phases m) values = length values ≡ nodes
 HasValues nodes outcome.Unsettled values = Unit {0}

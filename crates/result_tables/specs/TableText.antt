@@ -38,6 +38,7 @@ value_line id value = decimal id ++ (codes "," ++ (value_text value ++ line_end)
 abbrev pub outcome_text : Outcome → List ℕ
 outcome_text (outcome.Settled r) = codes "settled " ++ decimal r
 outcome_text (outcome.After n) = codes "after " ++ decimal n
+outcome_text (outcome.Phases m) = codes "phases " ++ decimal m
 outcome_text outcome.Unsettled = codes "unsettled"
 
 -- the line of a node, by its number
@@ -55,6 +56,7 @@ lines_between graph values from upto = flat_map (node_line graph values) (drop f
 abbrev pub rows : GraphData → Outcome → List Val → List ℕ
 rows graph (outcome.Settled r) values = node_lines graph values
 rows graph (outcome.After n) values = node_lines graph values
+rows graph (outcome.Phases m) values = node_lines graph values
 rows graph outcome.Unsettled values = []
 
 -- what a table is of: `view C.v P`, with the collection, the view and the call
@@ -96,6 +98,7 @@ sums_text values = codes " values " ++ (decimal (count_values values) ++ (codes 
 abbrev pub totals_text : Outcome → List Val → List ℕ
 totals_text (outcome.Settled r) values = sums_text values
 totals_text (outcome.After n) values = sums_text values
+totals_text (outcome.Phases m) values = sums_text values
 totals_text outcome.Unsettled values = []
 
 -- what stands behind the head: how the run ended, how many edges the view has, and, where there are values, how many

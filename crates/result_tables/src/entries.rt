@@ -152,6 +152,7 @@ impl Entries {
         match outcome {
             Outcome::Settled(_) => Ok(List::from_vec(self.values_at(alloc, place)?)),
             Outcome::After(_) => Ok(List::from_vec(self.values_at(alloc, place)?)),
+            Outcome::Phases(_) => Ok(List::from_vec(self.values_at(alloc, place)?)),
             Outcome::Unsettled => Ok(List::new(alloc)),
         }
     }

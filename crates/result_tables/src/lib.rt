@@ -21,7 +21,7 @@ mod totals;
 mod writing;
 
 pub use form::Form;
-pub use laws::{added_is_held, all_gives, changes_give, others_stay};
+pub use laws::{added_is_held, all_gives, changes_give, ids_rise, others_stay};
 pub use results::Results;
 pub use table::Table;
 pub use text::head_text;

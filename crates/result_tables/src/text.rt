@@ -26,6 +26,10 @@ fn push_outcome(text: &mut Vec<u8>, outcome: Outcome) -> Result<(), NoMemory>
             text.extend_from_slice(b"after ")?;
             push_decimal(text, u64::from(rounds))
         }
+        Outcome::Phases(phases) => {
+            text.extend_from_slice(b"phases ")?;
+            push_decimal(text, u64::from(phases))
+        }
         Outcome::Unsettled => {
             text.extend_from_slice(b"unsettled")?;
             Ok(())
@@ -41,6 +45,7 @@ fn push_rows(text: &mut Vec<u8>, graph: &Graph, table: &Table) -> Result<(), NoM
     match table.outcome {
         Outcome::Settled(_) => push_values(text, graph, table.values.as_slice()),
         Outcome::After(_) => push_values(text, graph, table.values.as_slice()),
+        Outcome::Phases(_) => push_values(text, graph, table.values.as_slice()),
         Outcome::Unsettled => Ok(()),
     }
 }
@@ -72,6 +77,7 @@ fn push_sums(
     match table.outcome {
         Outcome::Settled(_) => push_totals(alloc, text, table.values.as_slice()),
         Outcome::After(_) => push_totals(alloc, text, table.values.as_slice()),
+        Outcome::Phases(_) => push_totals(alloc, text, table.values.as_slice()),
         Outcome::Unsettled => Ok(()),
     }
 }

@@ -5,6 +5,6 @@ pub mod Chains
 pub mod Degrees
 pub mod Deliveries
 pub mod Updates
-pub mod SmallGraphs
 pub mod NameCases
 pub mod Endings
+pub mod Phasing

@@ -5,7 +5,7 @@ use Rattle.std.specs.List.{range_with_len}
 use Rattle.std.proofs.lemmas.Bool.{cases_eq, MatchBool-at_true, MatchBool-at_false, false≢true}
 use Rattle.std.proofs.lemmas.Grind.{get_or-set_at}
 use Rattle.std.proofs.lemmas.List.{get_or-set_same, get_or-set_other, ext_get_or}
-use Rattle.std.proofs.lemmas.List.FromFn.{fill_by_all, get_or-map-range_with_len, length-map-range_with_len}
+use Rattle.std.proofs.lemmas.List.FromFn.{fill_by_all}
 use Rattle.graph_model.specs.declared.value.Val.{Val}
 use Rattle.graph_model.specs.declared.value.Val.TheVariants.{Nil}
 use Rattle.vertex_lang.specs.Rounds.{value_at}
@@ -58,7 +58,3 @@ all_updated f old now n changed e u = fill_by_all f now n Nil e u.done
 pub change_told : (f : ℕ → Val) (old now : List Val) (n : ℕ) (changed : Bool) → length now ≡ length old → IsUpdatedTo f old now n changed → TellsChange changed now old
 change_told f old now n true e u = λ same. (u.other refl).2 (ap (λ (vs : List Val). value_at vs (u.other refl).0) same)
 change_told f old now n false e u = ext_get_or Nil now old e (λ k h. u.same refl k)
-
--- two functions that agree on the nodes
-pub same_over_nodes : (f g : ℕ → Val) (n : ℕ) → ((k : ℕ) → k < n → f k ≡ g k) → map f (range_with_len 0 n) ≡ map g (range_with_len 0 n)
-same_over_nodes f g n agree = fill_by_all g (map f (range_with_len 0 n)) n Nil (length-map-range_with_len f 0 n) (λ k h. get_or-map-range_with_len f 0 n k k Nil h (omega arith) ∙ agree k h)

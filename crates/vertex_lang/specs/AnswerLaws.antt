@@ -21,7 +21,7 @@ same_values_itself : (vs : List Val) → same_values vs vs ≡ true
 same_values_itself [] = refl
 same_values_itself (v ∷ vs) = and_from _ _ (values-exact.itself v) (same_values_itself vs)
 
-same_values_is : (vs ws : List Val) → same_values vs ws ≡ true → vs ≡ ws
+pub same_values_is : (vs ws : List Val) → same_values vs ws ≡ true → vs ≡ ws
 same_values_is [] [] e = refl
 same_values_is [] (w ∷ ws) e = absurd (false≢true e)
 same_values_is (v ∷ vs) [] e = absurd (false≢true e)
@@ -31,7 +31,7 @@ same_values_is (v ∷ vs) (w ∷ ws) e =
     let rest = same_values_is vs ws parts.1 in
     cc
 
-same_values_from : (vs ws : List Val) → vs ≡ ws → same_values vs ws ≡ true
+pub same_values_from : (vs ws : List Val) → vs ≡ ws → same_values vs ws ≡ true
 same_values_from vs ws e = ap (λ (us : List Val). same_values us ws) e ∙ same_values_itself ws
 
 other_values : (vs ws : List Val) → vs ≢ ws → same_values vs ws ≡ false
@@ -57,11 +57,12 @@ module _ (values : ℕ → List Val) where
   missing zero k each = refl
   missing (suc n) k each = cond-false _ _ _ (other_values _ _ (λ same. each k (omega arith) (ap values (add-one k) ∙ same))) ∙ missing n (suc k) (λ j low. each j (omega arith))
 
-  outcome_answer : (n : ℕ) (o : Outcome) (vs : List Val) → OutcomeIs values n o vs → Path Lone (record { outcome = o; values = vs }) (settled_at values (first_settled values n 0))
+  pub outcome_answer : (n : ℕ) (o : Outcome) (vs : List Val) → OutcomeIs values n o vs → Path Lone (record { outcome = o; values = vs }) (settled_at values (first_settled values n 0))
   outcome_answer n (outcome.Settled r) vs h =
       ap (λ (us : List Val). record { outcome = outcome.Settled r; values = us }) h.1
       ∙ ap (λ (o : Option ℕ). settled_at values o) (sym (found n 0 r (omega arith) (let low = h.0.within in omega arith) h.0.settled h.0.first))
   outcome_answer n (outcome.After r) vs h = absurd h
+  outcome_answer n (outcome.Phases r) vs h = absurd h
   outcome_answer n outcome.Unsettled vs h =
       ap (λ (us : List Val). record { outcome = outcome.Unsettled; values = us }) h.1
       ∙ ap (λ (o : Option ℕ). settled_at values o) (sym (missing n 0 (λ j low. h.0 j (omega arith))))
@@ -110,7 +111,7 @@ module _ (values : ℕ → List Val) where
   found_outcome n None h = (λ k low. h k (omega arith) (omega arith), refl)
   found_outcome n (Some r) h = (record { within = omega (arith, h.1); settled = h.2; first = λ k low. h.3 k (omega arith) low }, refl)
 
-  answer_from_meets : (limit : Rounds) → IsAnswerFrom values limit (answer_from values limit)
+  pub answer_from_meets : (limit : Rounds) → IsAnswerFrom values limit (answer_from values limit)
   answer_from_meets (rounds.Within n) = found_outcome n (first_settled values n 0) (finds n 0)
   answer_from_meets (rounds.For n) = (refl, refl)
 
@@ -123,6 +124,7 @@ answer_meets answer p graph arcs limit = answer_from_meets (lone answer p graph 
 outcome_size : (answer : Answer) (p : Program) (graph : GraphData) (arcs : List Arc) (n : ℕ) (o : Outcome) (vs : List Val) → OutcomeIs (lone answer p graph arcs) n o vs → HasAllValuesAt graph o vs
 outcome_size answer p graph arcs n (outcome.Settled r) vs h = ap (λ (us : List Val). length us) h.1 ∙ length-lone answer p graph arcs r
 outcome_size answer p graph arcs n (outcome.After r) vs h = absurd h
+outcome_size answer p graph arcs n (outcome.Phases r) vs h = absurd h
 outcome_size answer p graph arcs n outcome.Unsettled vs h = tt
 
 after_size : (answer : Answer) (p : Program) (graph : GraphData) (arcs : List Arc) (n : ℕ) (o : Outcome) (vs : List Val) → o ≡ outcome.After n → vs ≡ lone answer p graph arcs n → HasAllValuesAt graph o vs
@@ -132,26 +134,28 @@ pub answer_size : (answer : Answer) (p : Program) (graph : GraphData) (arcs : Li
 answer_size answer p graph arcs (rounds.Within n) l h = outcome_size answer p graph arcs n l.outcome l.values h
 answer_size answer p graph arcs (rounds.For n) l h = after_size answer p graph arcs n l.outcome l.values h.0 h.1
 
--- ---- in any order of the arcs
+-- ---- by rounds that are the same, and so in any order of the arcs
 
-outcome_permuted : (f g : ℕ → List Val) (n : ℕ) (o : Outcome) (vs : List Val) → ((r : ℕ) → f r ≡ g r) → OutcomeIs f n o vs → OutcomeIs g n o vs
-outcome_permuted f g n (outcome.Settled r) vs same h =
+outcome_same : (f g : ℕ → List Val) (n : ℕ) (o : Outcome) (vs : List Val) → ((r : ℕ) → f r ≡ g r) → OutcomeIs f n o vs → OutcomeIs g n o vs
+outcome_same f g n (outcome.Settled r) vs same h =
     (record { within = h.0.within; settled = sym (same (r + 1)) ∙ h.0.settled ∙ same r; first = λ k low e. h.0.first k low (same (k + 1) ∙ e ∙ sym (same k)) }, h.1 ∙ same r)
-outcome_permuted f g n (outcome.After r) vs same h = absurd h
-outcome_permuted f g n outcome.Unsettled vs same h = (λ k low e. h.0 k low (same (k + 1) ∙ e ∙ sym (same k)), h.1)
+outcome_same f g n (outcome.After r) vs same h = absurd h
+outcome_same f g n (outcome.Phases r) vs same h = absurd h
+outcome_same f g n outcome.Unsettled vs same h = (λ k low e. h.0 k low (same (k + 1) ∙ e ∙ sym (same k)), h.1)
 
-meets_permuted : (f g : ℕ → List Val) (limit : Rounds) (l : Lone) → ((r : ℕ) → f r ≡ g r) → IsAnswerFrom f limit l → IsAnswerFrom g limit l
-meets_permuted f g (rounds.Within n) l same h = outcome_permuted f g n l.outcome l.values same h
-meets_permuted f g (rounds.For n) l same h = (h.0, h.1 ∙ same n)
+pub meets_same : (f g : ℕ → List Val) (limit : Rounds) (l : Lone) → ((r : ℕ) → f r ≡ g r) → IsAnswerFrom f limit l → IsAnswerFrom g limit l
+meets_same f g (rounds.Within n) l same h = outcome_same f g n l.outcome l.values same h
+meets_same f g (rounds.For n) l same h = (h.0, h.1 ∙ same n)
 
 pub answer_permuted : (answer : Answer) (p : Program) (graph : GraphData) (xs ys : List Arc) (limit : Rounds) → IsPermutation xs ys → answer_of answer p graph xs limit ≡ answer_of answer p graph ys limit
-answer_permuted answer p graph xs ys limit s = answer_is answer p graph ys limit (answer_of answer p graph xs limit) (meets_permuted (lone answer p graph xs) (lone answer p graph ys) limit (answer_of answer p graph xs limit) (λ r. permuted-arcs answer p graph xs ys r s) (answer_meets answer p graph xs limit))
+answer_permuted answer p graph xs ys limit s = answer_is answer p graph ys limit (answer_of answer p graph xs limit) (meets_same (lone answer p graph xs) (lone answer p graph ys) limit (answer_of answer p graph xs limit) (λ r. permuted-arcs answer p graph xs ys r s) (answer_meets answer p graph xs limit))
 
 -- ---- how many rounds
 
-outcome_rounds : (values : ℕ → List Val) (n : ℕ) (o : Outcome) (vs : List Val) → OutcomeIs values n o vs → rounds_run n o ≤ n
+pub outcome_rounds : (values : ℕ → List Val) (n : ℕ) (o : Outcome) (vs : List Val) → OutcomeIs values n o vs → rounds_run n o ≤ n
 outcome_rounds values n (outcome.Settled r) vs h = let low = h.0.within in omega arith
 outcome_rounds values n (outcome.After r) vs h = absurd h
+outcome_rounds values n (outcome.Phases r) vs h = absurd h
 outcome_rounds values n outcome.Unsettled vs h = omega arith
 
 after_rounds : (n m : ℕ) (o : Outcome) → o ≡ outcome.After n → rounds_run m o ≤ n

@@ -16,8 +16,9 @@ use Rattle.vertex_lang.specs.Arcs.{arcs_between, outdeg, messages, is_sent, gath
 use Rattle.vertex_lang.specs.Directions.{RunsAlong}
 use Rattle.vertex_lang.specs.Expressions.{Answer, start_of}
 use Rattle.vertex_lang.specs.Extremes.{IsLeast, IsGreatest}
-use Rattle.vertex_lang.specs.Lone.{same_value, answer_of, IsAnswer}
+use Rattle.vertex_lang.specs.Lone.{same_value, answer_of, IsAnswer, HasAllValues}
 use Rattle.vertex_lang.specs.MessageLaws.{sent_of}
+use Rattle.vertex_lang.specs.Phases.{next_with_of, next_with, rounds_from, starts_of, phase_values, phases_answer, IsPhasesAnswer}
 use Rattle.vertex_lang.specs.Rounds.{value_at, received, next_of, lone}
 
 -- ---- values
@@ -93,6 +94,37 @@ LoneLength = (answer : Answer) (p : Program) (graph : GraphData) (arcs : List Ar
 -- from a round on that changes nothing the values stay
 abbrev pub FixpointStays : Type 0
 FixpointStays = (answer : Answer) (p : Program) (graph : GraphData) (arcs : List Arc) (r k : ℕ) → lone answer p graph arcs (r + 1) ≡ lone answer p graph arcs r → r ≤ k → lone answer p graph arcs k ≡ lone answer p graph arcs r
+
+-- ---- rounds from given values
+
+-- the values after each round of a plain run are those of rounds that begin with the program's starts
+abbrev pub LoneFromStarts : Type 0
+LoneFromStarts = (answer : Answer) (p : Program) (graph : GraphData) (arcs : List Arc) (r : ℕ) → lone answer p graph arcs r ≡ rounds_from answer p graph (starts_of p graph) arcs r
+
+-- what holds of them: the start, the next round and a value in it, how many values there are, and that a fixpoint stays
+pub record RoundsFrom (answer : Answer) (p : Program) (graph : GraphData) (starts : List Val) (arcs : List Arc) : Type 0 where
+  pub first : rounds_from answer p graph starts arcs 0 ≡ starts
+  pub later : (r : ℕ) → rounds_from answer p graph starts arcs (r + 1) ≡ next_with answer p graph starts arcs (rounds_from answer p graph starts arcs r)
+  pub value : (values : List Val) (v : ℕ) → v < length graph.ids → value_at (next_with answer p graph starts arcs values) v ≡ next_with_of answer p graph starts arcs values v
+  pub size : (r : ℕ) → length starts ≡ length graph.ids → length (rounds_from answer p graph starts arcs r) ≡ length graph.ids
+  pub stays : (r k : ℕ) → rounds_from answer p graph starts arcs (r + 1) ≡ rounds_from answer p graph starts arcs r → r ≤ k → rounds_from answer p graph starts arcs k ≡ rounds_from answer p graph starts arcs r
+  pub permuted : (others : List Arc) (r : ℕ) → IsPermutation arcs others → rounds_from answer p graph starts arcs r ≡ rounds_from answer p graph starts others r
+
+abbrev pub AreRoundsFrom : Type 0
+AreRoundsFrom = (answer : Answer) (p : Program) (graph : GraphData) (starts : List Val) (arcs : List Arc) → RoundsFrom answer p graph starts arcs
+
+-- ---- phases
+
+-- the answer in phases as a function meets the one as a relation, nothing else does, and it has as many values as its outcome says
+pub record PhasesAnswer (answer : Answer) (p : Program) (graph : GraphData) (arcs : List Arc) (n m : ℕ) : Type 0 where
+  pub first : phase_values answer p graph (starts_of p graph) arcs n 0 ≡ starts_of p graph
+  pub later : (k : ℕ) → phase_values answer p graph (starts_of p graph) arcs n (k + 1) ≡ rounds_from answer p graph (phase_values answer p graph (starts_of p graph) arcs n k) arcs n
+  pub meets : IsPhasesAnswer answer p graph arcs n m (phases_answer answer p graph arcs n m)
+  pub one : (l : Lone) → IsPhasesAnswer answer p graph arcs n m l → l ≡ phases_answer answer p graph arcs n m
+  pub size : HasAllValues graph (phases_answer answer p graph arcs n m)
+
+abbrev pub ArePhasesAnswers : Type 0
+ArePhasesAnswers = (answer : Answer) (p : Program) (graph : GraphData) (arcs : List Arc) (n m : ℕ) → PhasesAnswer answer p graph arcs n m
 
 -- ---- the order of the arcs doesn't matter
 

@@ -12,6 +12,8 @@ pub mod Mail
 pub mod Ignoring
 pub mod Settings
 pub mod RunsTo
+pub mod Phases
+pub mod Phasing
 pub mod Directions
 pub mod Extremes
 pub mod Laws
@@ -19,6 +21,7 @@ pub mod ExtremeLaws
 pub mod GatherLaws
 pub mod MessageLaws
 pub mod RoundLaws
+pub mod PhaseLaws
 pub mod AnswerLaws
 pub mod ArcLaws
 pub mod Named

@@ -67,6 +67,7 @@ NeverSettles values n = (k : ℕ) → k < n → values (k + 1) ≢ values k
 abbrev pub OutcomeIs : (ℕ → List Val) → ℕ → Outcome → List Val → Type 0
 OutcomeIs values n (outcome.Settled r) last = SettlesAt values n r × (last ≡ values r)
 OutcomeIs values n (outcome.After r) last = ⊥
+OutcomeIs values n (outcome.Phases r) last = ⊥
 OutcomeIs values n outcome.Unsettled last = NeverSettles values n × (last ≡ [])
 
 -- the outcome of exactly n rounds
@@ -83,18 +84,20 @@ IsAnswer answer p graph arcs limit l = IsAnswerFrom (lone answer p graph arcs) l
 -- ---- its rounds
 
 -- how many rounds were gone through, of at most or exactly so many: one more than those after which it settled, since the
--- last one changed nothing
+-- last one changed nothing; a plain run goes through no phases
 abbrev pub rounds_run : ℕ → Outcome → ℕ
 rounds_run n (outcome.Settled r) = r + 1
 rounds_run n (outcome.After r) = r
+rounds_run n (outcome.Phases r) = 0
 rounds_run n outcome.Unsettled = n
 
 -- ---- its size
 
--- where the run settled, or went through all its rounds, there is a value for each node
+-- where the run settled, or went through all its rounds or phases, there is a value for each node
 abbrev pub HasAllValuesAt : GraphData → Outcome → List Val → Type 0
 HasAllValuesAt graph (outcome.Settled r) last = length last ≡ length graph.ids
 HasAllValuesAt graph (outcome.After r) last = length last ≡ length graph.ids
+HasAllValuesAt graph (outcome.Phases r) last = length last ≡ length graph.ids
 HasAllValuesAt graph outcome.Unsettled last = Unit {0}
 
 abbrev pub HasAllValues : GraphData → Lone → Type 0

@@ -1,5 +1,5 @@
 -- The number -(2^63) is made by no expression, and by no gathering, that wasn't handed it.
-use Rattle.std.specs.Prelude.{◌≡◌, ◌≢◌, ◌⊎◌, ◌++◌, ◌<◌, nat_lt, if◌then◌else◌, length, All, ℕ, zero, suc, ℤ, pos, negsuc, ◌*ℤ◌, neg_ℤ, Bool, true, false, cond, int_lt, List, [], ◌∷◌, map, fold, flat_map, Contains}
+use Rattle.std.specs.Prelude.{◌≡◌, ◌≢◌, ◌⊎◌, ◌++◌, ◌+◌, ◌<◌, nat_lt, if◌then◌else◌, length, All, ℕ, zero, suc, ℤ, pos, negsuc, ◌*ℤ◌, neg_ℤ, Bool, true, false, cond, int_lt, List, [], ◌∷◌, map, fold, flat_map, Contains}
 use Rattle.std.specs.List.{list_all}
 use Rattle.std.specs.Ordering.{int_eq}
 use Rattle.std.specs.Int.RustNames.{int_div}
@@ -7,6 +7,7 @@ use Rattle.std.proofs.Common.{inl, inr, sym, ap, subst, ◌∙◌, lit<, add-one
 use Rattle.std.proofs.lemmas.Bool.{cond_both, false≢true, true≢false, ltb-true}
 use Rattle.std.proofs.lemmas.List.Elements.{All-contains, Contains-append_left, Contains-append_right}
 use Rattle.std.proofs.lemmas.List.{get_or_default}
+use Rattle.std.proofs.lemmas.List.FromFn.{get_or-map-range_with_len, length-map-range_with_len}
 use Rattle.graph_model.specs.declared.value.Val.{Val}
 use Rattle.graph_model.specs.declared.value.Val.TheVariants.{Nil, Num}
 use Rattle.vertex_lang.specs.declared.program.Expr.{Expr}
@@ -29,11 +30,12 @@ use Rattle.vertex_lang.specs.Values.{clamped, greatest, least, lowest, lowest_nu
 use Rattle.vertex_lang.specs.Leaves.{Leaf, HoldsNumber, leaves_of, leaves_of_check, leaves_in, leaves_in_check}
 use Rattle.vertex_lang.specs.Expressions.{Answer, Environment, start_of, sent_by, updated, start_words, send_words, update_words, node_value, edge_value, no_property, value_of, holds_of, check_holds, expression_value}
 use Rattle.vertex_lang.specs.Arcs.{IsArc, gathered_of, outdeg, total}
-use Rattle.vertex_lang.specs.Rounds.{carried, lone, next_of, received, value_at}
+use Rattle.vertex_lang.specs.Rounds.{carried, lone, received, value_at}
+use Rattle.vertex_lang.specs.Phases.{next_with_of, rounds_from, starts_of}
 use Rattle.vertex_lang.specs.Lone.{IsAnswer, OutcomeIs}
 use Rattle.vertex_lang.specs.ExtremeLaws.{contains-none, greatest-gathered, least-gathered}
 use Rattle.vertex_lang.specs.MessageLaws.{message-from}
-use Rattle.vertex_lang.specs.RoundLaws.{length-lone, next-at, start-at}
+use Rattle.vertex_lang.specs.PhaseLaws.{from_starts, from_next, length-from, lone-from, next-with-at}
 
 abbrev is_pos : ℤ → Bool
 is_pos (pos n) = true
@@ -241,42 +243,60 @@ lowest_gathered gather.Count ms e = absurd (other_sign _ _ (ap number_in e))
 abbrev pub OnlyGiven : Answer → Type 0
 OnlyGiven answer = (p : Program) (id : ℕ) (start value gathered : Val) (count : ℕ) → answer p id start value gathered count ≡ lowest → HoldsNumber p lowest_number ⊎ ((start ≡ lowest) ⊎ ((value ≡ lowest) ⊎ (gathered ≡ lowest)))
 
-module _ (answer : Answer) (only : OnlyGiven answer) (p : Program) (graph : GraphData) (nodes : HasNodeCells graph) (edges : HasEdgeCells graph) (arcs : List Arc) (are_arcs : All (IsArc graph) arcs) where
+module _ (answer : Answer) (only : OnlyGiven answer) (p : Program) (graph : GraphData) (edges : HasEdgeCells graph) (arcs : List Arc) (are_arcs : All (IsArc graph) arcs)
+    (starts : List Val) (Q : Type 0) (held : HoldsNumber p lowest_number → Q) (given_at : (v : ℕ) → v < length graph.ids → value_at starts v ≡ lowest → Q) where
   abbrev NoneMade : List Val → Type 0
-  NoneMade values = (v : ℕ) → v < length graph.ids → value_at values v ≡ lowest → HoldsNumber p lowest_number
+  NoneMade values = (v : ℕ) → v < length graph.ids → value_at values v ≡ lowest → Q
 
-  held-or-tail : (values : List Val) (a : Arc) → NoneMade values → IsArc graph a → HoldsNumber p lowest_number ⊎ (value_at values a.tail.0 ≡ lowest) → HoldsNumber p lowest_number
-  held-or-tail values a before is_arc (inl h) = h
+  held-or-tail : (values : List Val) (a : Arc) → NoneMade values → IsArc graph a → HoldsNumber p lowest_number ⊎ (value_at values a.tail.0 ≡ lowest) → Q
+  held-or-tail values a before is_arc (inl h) = held h
   held-or-tail values a before is_arc (inr e) = before a.tail.0 is_arc.tail e
 
-  lowest-received : (values : List Val) (v : ℕ) → NoneMade values → Contains (received p graph arcs values v) lowest → HoldsNumber p lowest_number
+  lowest-received : (values : List Val) (v : ℕ) → NoneMade values → Contains (received p graph arcs values v) lowest → Q
   lowest-received values v before h =
       let told = message-from (carried p graph arcs values) arcs v lowest h in
       let a = told.0 in
       let is_arc = All-contains (IsArc graph) arcs a are_arcs told.1 in
       held-or-tail values a before is_arc (lowest_sent p graph a.tail.0 (value_at values a.tail.0) (outdeg arcs a.tail.0) a.edge.0 edges is_arc.edge told.3)
 
-  lowest-next : (values : List Val) (v : ℕ) → NoneMade values → v < length graph.ids → HoldsNumber p lowest_number ⊎ ((start_of p graph v ≡ lowest) ⊎ ((value_at values v ≡ lowest) ⊎ (gathered_of p.gather (received p graph arcs values v) ≡ lowest))) → HoldsNumber p lowest_number
-  lowest-next values v before low (inl h) = h
-  lowest-next values v before low (inr (inl e)) = lowest_start p graph v nodes low e
+  lowest-next : (values : List Val) (v : ℕ) → NoneMade values → v < length graph.ids → HoldsNumber p lowest_number ⊎ ((value_at starts v ≡ lowest) ⊎ ((value_at values v ≡ lowest) ⊎ (gathered_of p.gather (received p graph arcs values v) ≡ lowest))) → Q
+  lowest-next values v before low (inl h) = held h
+  lowest-next values v before low (inr (inl e)) = given_at v low e
   lowest-next values v before low (inr (inr (inl e))) = before v low e
   lowest-next values v before low (inr (inr (inr e))) = lowest-received values v before (lowest_gathered p.gather (received p graph arcs values v) e)
 
-  lowest-lone : (r : ℕ) → NoneMade (lone answer p graph arcs r)
-  lowest-lone zero = λ v low e. lowest_start p graph v nodes low (sym (start-at answer p graph arcs v low) ∙ e)
-  lowest-lone (suc r) = λ v low e.
-      let values = lone answer p graph arcs r in
-      let next : next_of answer p graph arcs values v ≡ lowest = sym (next-at answer p graph arcs r v low) ∙ ap (λ k. value_at (lone answer p graph arcs k) v) (add-one r) ∙ e in
-      lowest-next values v (lowest-lone r) low (only p (id_of graph v) (start_of p graph v) (value_at values v) (gathered_of p.gather (received p graph arcs values v)) (length (received p graph arcs values v)) next)
+  lowest-from : (r : ℕ) → NoneMade (rounds_from answer p graph starts arcs r)
+  lowest-from zero = λ v low e. given_at v low (ap (λ (vs : List Val). value_at vs v) (sym (from_starts answer p graph starts arcs)) ∙ e)
+  lowest-from (suc r) = λ v low e.
+      let values = rounds_from answer p graph starts arcs r in
+      let at : value_at (rounds_from answer p graph starts arcs (r + 1)) v ≡ next_with_of answer p graph starts arcs values v =
+      ap (λ (vs : List Val). value_at vs v) (from_next answer p graph starts arcs r) ∙ next-with-at answer p graph starts arcs values v low in
+      let next : next_with_of answer p graph starts arcs values v ≡ lowest = sym at ∙ ap (λ k. value_at (rounds_from answer p graph starts arcs k) v) (add-one r) ∙ e in
+      lowest-next values v (lowest-from r) low (only p (id_of graph v) (value_at starts v) (value_at values v) (gathered_of p.gather (received p graph arcs values v)) (length (received p graph arcs values v)) next)
+
+  in-from : (r : ℕ) (values : List Val) → length starts ≡ length graph.ids → values ≡ rounds_from answer p graph starts arcs r → Contains values lowest → Q
+  in-from r values size same h =
+      let low : h.0 < length graph.ids = omega (arith, h.1, ap (λ (vs : List Val). length vs) same, length-from answer p graph starts arcs r size) in
+      lowest-from r h.0 low (ap (λ (vs : List Val). value_at vs h.0) (sym same) ∙ get_or_default values h.0 Nil lowest h.1 ∙ h.2)
+
+module _ (answer : Answer) (only : OnlyGiven answer) (p : Program) (graph : GraphData) (nodes : HasNodeCells graph) (edges : HasEdgeCells graph) (arcs : List Arc) (are_arcs : All (IsArc graph) arcs) where
+  -- rounds that begin with given values
+  pub lowest_in_rounds : (starts : List Val) (r : ℕ) (values : List Val) → length starts ≡ length graph.ids → values ≡ rounds_from answer p graph starts arcs r → Contains values lowest → HoldsNumber p lowest_number ⊎ Contains starts lowest
+  lowest_in_rounds starts r values size same h =
+      in-from answer only p graph edges arcs are_arcs starts (HoldsNumber p lowest_number ⊎ Contains starts lowest) (λ holds. inl holds)
+      (λ v low e. let within : v < length starts = omega (arith, low, size) in inr (v, within, get_or_default starts v lowest Nil within ∙ e))
+      r values size same h
 
   in-lone : (r : ℕ) (values : List Val) → values ≡ lone answer p graph arcs r → Contains values lowest → HoldsNumber p lowest_number
   in-lone r values same h =
-      let low : h.0 < length graph.ids = omega (arith, h.1, ap (λ (vs : List Val). length vs) same, length-lone answer p graph arcs r) in
-      lowest-lone r h.0 low (ap (λ (vs : List Val). value_at vs h.0) (sym same) ∙ get_or_default values h.0 Nil lowest h.1 ∙ h.2)
+      in-from answer only p graph edges arcs are_arcs (starts_of p graph) (HoldsNumber p lowest_number) (λ holds. holds)
+      (λ v low e. lowest_start p graph v nodes low (sym (get_or-map-range_with_len (start_of p graph) 0 (length graph.ids) v v Nil low (omega arith)) ∙ e))
+      r values (length-map-range_with_len (start_of p graph) 0 (length graph.ids)) (same ∙ lone-from answer p graph arcs r) h
 
   in-outcome : (n : ℕ) (o : Outcome) (values : List Val) → OutcomeIs (lone answer p graph arcs) n o values → Contains values lowest → HoldsNumber p lowest_number
   in-outcome n (outcome.Settled r) values h c = in-lone r values h.1 c
   in-outcome n (outcome.After r) values h c = absurd h
+  in-outcome n (outcome.Phases r) values h c = absurd h
   in-outcome n outcome.Unsettled values h c = absurd (contains-none lowest (subst (λ vs. Contains vs lowest) h.1 c))
 
   pub lowest_in_answer : (limit : Rounds) (l : Lone) → IsAnswer answer p graph arcs limit l → Contains l.values lowest → HoldsNumber p lowest_number

@@ -1,8 +1,9 @@
 -- Rounds: one value of the next round, how many values there are, and rounds after which nothing changes; in any order of the arcs.
 use Rattle.std.specs.Prelude.{◌≡◌, ℕ, zero, suc, ◌+◌, ◌<◌, ◌≤◌, ◌-◌, List, [], ◌∷◌, map, length, refl}
+use Rattle.std.specs.List.{range_with_len}
 use Rattle.std.specs.List.Sorted.{IsPermutation}
 use Rattle.std.proofs.Common.{arith, ap, sym, ◌∙◌, add-one}
-use Rattle.std.proofs.lemmas.List.FromFn.{length-map-range_with_len, get_or-map-range_with_len}
+use Rattle.std.proofs.lemmas.List.FromFn.{fill_by_all, length-map-range_with_len, get_or-map-range_with_len}
 use Rattle.graph_model.specs.declared.value.Val.{Val}
 use Rattle.graph_model.specs.declared.value.Val.TheVariants.{Nil}
 use Rattle.graph_model.specs.GraphData.{GraphData, id_of}
@@ -13,6 +14,12 @@ use Rattle.vertex_lang.specs.Expressions.{Answer, start_of}
 use Rattle.vertex_lang.specs.Rounds.{nodes_of, value_at, received, next_of, next, lone}
 use Rattle.vertex_lang.specs.GatherLaws.{gathered-one, length-one}
 use Rattle.vertex_lang.specs.MessageLaws.{received-permuted}
+
+-- ---- all nodes
+
+-- two functions that agree on the nodes
+pub same_over_nodes : (f g : ℕ → Val) (n : ℕ) → ((k : ℕ) → k < n → f k ≡ g k) → map f (range_with_len 0 n) ≡ map g (range_with_len 0 n)
+same_over_nodes f g n agree = fill_by_all g (map f (range_with_len 0 n)) n Nil (length-map-range_with_len f 0 n) (λ k h. get_or-map-range_with_len f 0 n k k Nil h (omega arith) ∙ agree k h)
 
 -- ---- one round more
 
@@ -53,7 +60,7 @@ stays answer p graph arcs r k e low = let same : r + (k - r) ≡ k = omega arith
 
 -- ---- in any order of the arcs
 
-answer-by : (answer : Answer) (p : Program) (id : ℕ) (start value g h : Val) (n m : ℕ) → g ≡ h → n ≡ m → answer p id start value g n ≡ answer p id start value h m
+pub answer-by : (answer : Answer) (p : Program) (id : ℕ) (start value g h : Val) (n m : ℕ) → g ≡ h → n ≡ m → answer p id start value g n ≡ answer p id start value h m
 answer-by answer p id start value g h n m e f = cc
 
 pub next-permuted : (answer : Answer) (p : Program) (graph : GraphData) (xs ys : List Arc) (values : List Val) (v : ℕ) → IsPermutation xs ys → next_of answer p graph xs values v ≡ next_of answer p graph ys values v
@@ -63,7 +70,7 @@ next-permuted answer p graph xs ys values v s =
     let same = received-permuted p graph xs ys values v s in
     answer-by answer p (id_of graph v) (start_of p graph v) (value_at values v) (gathered_of p.gather ms) (gathered_of p.gather ns) (length ms) (length ns) (gathered-one p.gather ms ns same) (length-one ms ns same)
 
-map-same : {A B : Type 0} (f g : A → B) (xs : List A) → ((x : A) → f x ≡ g x) → map f xs ≡ map g xs
+pub map-same : {A B : Type 0} (f g : A → B) (xs : List A) → ((x : A) → f x ≡ g x) → map f xs ≡ map g xs
 map-same f g [] h = refl
 map-same f g (x ∷ xs) h = rw (h x, map-same f g xs h) refl
 

@@ -8,11 +8,12 @@ use Rattle.vertex_lang.specs.declared.lone.Rounds.{Rounds}
 use Rattle.vertex_lang.specs.declared.lone.Rounds.TheVariants as rounds
 use Rattle.vertex_lang.specs.Lone.{SettlesAt, NeverSettles}
 
--- at most n rounds, and the values at the end where it is settled
+-- at most n rounds, and the values at the end
 abbrev pub RunsWithin : (ℕ → List Val) → ℕ → Outcome → List Val → Type 0
 RunsWithin values n (outcome.Settled r) last = SettlesAt values n r × (last ≡ values r)
 RunsWithin values n (outcome.After r) last = ⊥
-RunsWithin values n outcome.Unsettled last = NeverSettles values n
+RunsWithin values n (outcome.Phases r) last = ⊥
+RunsWithin values n outcome.Unsettled last = NeverSettles values n × (last ≡ values n)
 
 abbrev pub RunsTo : (ℕ → List Val) → Rounds → Outcome → List Val → Type 0
 RunsTo values (rounds.Within n) o last = RunsWithin values n o last
@@ -22,4 +23,5 @@ RunsTo values (rounds.For n) o last = (o ≡ outcome.After n) × (last ≡ value
 abbrev pub told : Outcome → List Val → Lone
 told (outcome.Settled r) last = record { outcome = outcome.Settled r; values = last }
 told (outcome.After r) last = record { outcome = outcome.After r; values = last }
+told (outcome.Phases r) last = record { outcome = outcome.Phases r; values = last }
 told outcome.Unsettled last = record { outcome = outcome.Unsettled; values = [] }

@@ -1,26 +1,62 @@
-//! Arithmetic of values.
+//! Arithmetic of values. Whoever computes values of programs in another way, in a room above, computes by these functions.
 
-ghost use Rattle.std.specs.Prelude.{◌≡◌, ◌≢◌, ◌<ℤ◌, ◌≤ℤ◌, pos, negsuc};
+ghost use Rattle.std.specs.Prelude.{◌≡◌, ◌≢◌, ◌<ℤ◌, ◌≤ℤ◌, ◌+ℤ◌, ◌-ℤ◌, ◌*ℤ◌, pos, negsuc};
 ghost use Rattle.std.specs.Int.RustNames.{int_div};
+ghost use Rattle.vertex_lang.specs.Mail.{extreme_with};
 ghost use Rattle.vertex_lang.specs.Values.{clamped, added, multiplied, divided, scaled, negated, lesser, greater, in_range, compares, number_compares, exact_sum, is_nil};
 
-use crate::program::Cmp;
+use crate::program::{Cmp, Gather};
 use graph_model::Val;
 
-/// The greatest number that a value can be, 2^63 - 1. The least one is its negation.
+/// The greatest number that a value can be, 2^63 - 1.
 const GREATEST: i64 = i64::MAX;
 
-/// A number brought into the range of values.
-pub(crate) fn clamp_number(number: i128) -> i64
+/// The least number that a value can be, -(2^63 - 1).
+const LEAST: i64 = -GREATEST;
+
+/// A number brought into the range of values, which is from -(2^63 - 1) to 2^63 - 1.
+pub fn clamp_number(number: i128) -> i64
     ensures { result ≡ clamped number }
 {
     if number > i128::from(GREATEST) {
         GREATEST
-    } else if number < -i128::from(GREATEST) {
-        -GREATEST
+    } else if number < i128::from(LEAST) {
+        LEAST
     } else {
         number as i64
     }
+}
+
+/// The sum of two numbers, clamped.
+pub fn sum_of(left: i64, right: i64) -> i64
+    ensures { result ≡ clamped (left +ℤ right) }
+{
+    left.saturating_add(right).max(LEAST)
+}
+
+// The difference of two numbers, clamped.
+fn difference_of(left: i64, right: i64) -> i64
+    ensures { result ≡ clamped (left -ℤ right) }
+{
+    left.saturating_sub(right).max(LEAST)
+}
+
+/// The product of two numbers, clamped.
+pub fn product_of(left: i64, right: i64) -> i64
+    ensures { result ≡ clamped (left *ℤ right) }
+{
+    left.saturating_mul(right).max(LEAST)
+}
+
+/// The quotient of two numbers, cut towards zero and clamped. Only that of -(2^63) can be out of range.
+pub fn quotient_of(number: i64, divisor: i64) -> i64
+    requires { divisor ≢ pos 0 }
+    ensures { result ≡ clamped (int_div number divisor) }
+{
+    if number < LEAST {
+        return clamp_number(i128::from(number) / i128::from(divisor));
+    }
+    number / divisor
 }
 
 /// The sum (true) or the difference (false), clamped. Of none it is none.
@@ -28,19 +64,19 @@ pub(crate) fn add(plus: bool, left: Val, right: Val) -> Val
     ensures { result ≡ added plus left right }
 {
     match (left, right) {
-        (Val::Num(a), Val::Num(b)) => Val::Num(clamp_number(exact(plus, a, b))),
+        (Val::Num(a), Val::Num(b)) => Val::Num(add_numbers(plus, a, b)),
         _ => Val::Nil,
     }
 }
 
-// The sum (true) or the difference (false), as it is.
-fn exact(plus: bool, a: i64, b: i64) -> i128
-    ensures { result ≡ exact_sum plus a b }
+// The sum (true) or the difference (false) of two numbers, clamped.
+fn add_numbers(plus: bool, a: i64, b: i64) -> i64
+    ensures { result ≡ clamped (exact_sum plus a b) }
 {
     if plus {
-        i128::from(a) + i128::from(b)
+        sum_of(a, b)
     } else {
-        i128::from(a) - i128::from(b)
+        difference_of(a, b)
     }
 }
 
@@ -60,7 +96,7 @@ fn multiply(left: Val, right: Val) -> Val
     ensures { result ≡ multiplied left right }
 {
     match (left, right) {
-        (Val::Num(a), Val::Num(b)) => Val::Num(clamp_number(i128::from(a) * i128::from(b))),
+        (Val::Num(a), Val::Num(b)) => Val::Num(product_of(a, b)),
         _ => Val::Nil,
     }
 }
@@ -70,20 +106,9 @@ fn divide(left: Val, right: Val) -> Val
     ensures { result ≡ divided left right }
 {
     match (left, right) {
-        (Val::Num(a), Val::Num(b)) if b != 0 => Val::Num(quotient(a, b)),
+        (Val::Num(a), Val::Num(b)) if b != 0 => Val::Num(quotient_of(a, b)),
         _ => Val::Nil,
     }
-}
-
-// The quotient of two numbers, cut towards zero and clamped. Only that of -(2^63) can be out of range.
-fn quotient(a: i64, b: i64) -> i64
-    requires { b ≢ pos 0 }
-    ensures { result ≡ clamped (int_div a b) }
-{
-    if a < -GREATEST {
-        return clamp_number(i128::from(a) / i128::from(b));
-    }
-    a / b
 }
 
 /// The number with the other sign, clamped. Of none it is none.
@@ -97,7 +122,7 @@ pub(crate) fn negate(value: Val) -> Val
 }
 
 /// The lesser of two values, where none is not counted.
-pub(crate) fn lesser_of(left: Val, right: Val) -> Val
+pub fn lesser_of(left: Val, right: Val) -> Val
     ensures { result ≡ lesser left right }
 {
     match (left, right) {
@@ -108,7 +133,7 @@ pub(crate) fn lesser_of(left: Val, right: Val) -> Val
 }
 
 /// The greater of two values, where none is not counted.
-pub(crate) fn greater_of(left: Val, right: Val) -> Val
+pub fn greater_of(left: Val, right: Val) -> Val
     ensures { result ≡ greater left right }
 {
     match (left, right) {
@@ -118,13 +143,25 @@ pub(crate) fn greater_of(left: Val, right: Val) -> Val
     }
 }
 
+/// The least or the greatest message with one message more, where the one or the other is gathered.
+pub fn join(kind: Gather, extreme: Val, message: Val) -> Val
+    ensures { result ≡ extreme_with kind extreme message }
+{
+    match kind {
+        Gather::Min => lesser_of(extreme, message),
+        Gather::Max => greater_of(extreme, message),
+        Gather::Sum => extreme,
+        Gather::Count => extreme,
+    }
+}
+
 /// The value with its number clamped.
-pub(crate) fn clamp(value: Val) -> Val
+pub fn clamp(value: Val) -> Val
     ensures { result ≡ in_range value }
 {
     match value {
         Val::Nil => Val::Nil,
-        Val::Num(number) => Val::Num(clamp_number(i128::from(number))),
+        Val::Num(number) => Val::Num(number.max(LEAST)),
     }
 }
 

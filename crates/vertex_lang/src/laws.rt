@@ -2,7 +2,7 @@
 //! law, whose proof in `specs/` serves the rooms above.
 
 ghost use Rattle.vertex_lang.specs.Values.{lesser, greater};
-ghost use Rattle.vertex_lang.specs.Laws.{ValuesExact, JoinsInAnyOrder, OneMessages, PermutedMessages, LeastGathered, GreatestGathered, ArcsRun, ArcsCome, ArcsWithin, MessagesSum, MessageFrom, MessageTo, StartAt, NextAt, LoneLength, FixpointStays, PermutedDegrees, PermutedReceived, PermutedNext, PermutedLone, PermutedAnswer, AnswerMeets, AnswerIsOne};
+ghost use Rattle.vertex_lang.specs.Laws.{ValuesExact, JoinsInAnyOrder, OneMessages, PermutedMessages, LeastGathered, GreatestGathered, ArcsRun, ArcsCome, ArcsWithin, MessagesSum, MessageFrom, MessageTo, StartAt, NextAt, LoneLength, FixpointStays, LoneFromStarts, AreRoundsFrom, ArePhasesAnswers, PermutedDegrees, PermutedReceived, PermutedNext, PermutedLone, PermutedAnswer, AnswerMeets, AnswerIsOne};
 
 /// The test of values tells whether two are one.
 pub fn values_exact()
@@ -87,6 +87,21 @@ pub fn lone_length()
 /// From a round on that changes nothing the values stay.
 pub fn fixpoint_stays()
     ensures { FixpointStays }
+{}
+
+/// The values of a plain run are those of rounds that begin with the program's starts.
+pub fn lone_from_starts()
+    ensures { LoneFromStarts }
+{}
+
+/// What holds of rounds that begin with given values.
+pub fn rounds_from()
+    ensures { AreRoundsFrom }
+{}
+
+/// What holds of the answer in phases.
+pub fn phases_answer()
+    ensures { ArePhasesAnswers }
 {}
 
 /// How many arcs leave a node doesn't depend on their order.

@@ -4,14 +4,14 @@ ghost use Rattle.std.specs.Prelude.{◌≡◌, ◌<◌, ◌≤◌, ◌+◌, ◌*
 ghost use Rattle.vertex_lang.specs.Values.{lowest, lowest_number};
 ghost use Rattle.vertex_lang.specs.Leaves.{HoldsNumber, IsChecked};
 ghost use Rattle.vertex_lang.specs.Arcs.{IsArc};
-ghost use Rattle.vertex_lang.specs.Rounds.{lone};
+ghost use Rattle.vertex_lang.specs.Phases.{rounds_from};
 ghost use Rattle.vertex_lang.specs.RunsTo.{RunsTo, RunsWithin, told};
 ghost use Rattle.vertex_lang.specs.Settings.{HasSizes};
 ghost use Rattle.vertex_lang.specs.Lone.{number_of, answer_of, IsAnswer, HasAllValues, rounds_run};
 
 use crate::arc::Arc;
 use crate::program::Program;
-use crate::setting::{Lists, Setting};
+use crate::setting::{Lists, Setting, start_values};
 use crate::updater::Updater;
 use crate::words::cells_are_proper;
 use graph_model::{Graph, Val};
@@ -34,7 +34,9 @@ pub enum Outcome {
     Settled(u32),
     /// After this number of rounds, which is the one that was asked for.
     After(u32),
-    /// Each of the rounds allowed changed something.
+    /// After this number of phases, each of which is a number of rounds of which the last changed nothing.
+    Phases(u32),
+    /// Each of the rounds allowed changed something; in phases: so did the last round of one of them.
     Unsettled,
 }
 
@@ -74,7 +76,8 @@ pub fn lone_run<U: Updater>(
     ensures refused { OnErr result (U.calls updater.new ≡ U.calls updater.old) }
 {
     cells_are_proper(graph);
-    let setting = Setting::new(alloc, program, graph, arcs)?;
+    let starts = start_values(alloc, program, graph)?;
+    let setting = Setting::new(alloc, program, graph, arcs, &starts)?;
     let mut lists = Lists::new(alloc, &setting)?;
     let outcome = setting.run(rounds, &mut lists, updater);
     Ok(answer(alloc, outcome, lists.values))
@@ -85,7 +88,7 @@ fn answer(alloc: Global, outcome: Outcome, values: Vec<Val>) -> Lone
     ensures { result ≡ told outcome values.items }
 {
     let values = match outcome {
-        Outcome::Settled(_) | Outcome::After(_) => List::from_vec(values),
+        Outcome::Settled(_) | Outcome::After(_) | Outcome::Phases(_) => List::from_vec(values),
         Outcome::Unsettled => List::new(alloc),
     };
     Lone { outcome, values }
@@ -95,8 +98,8 @@ impl Setting<'_> {
     // Takes the values on from the start for these rounds.
     fn run<U: Updater>(&self, rounds: Rounds, lists: &mut Lists, updater: &mut U) -> Outcome
         requires sizes { HasSizes self.now.graph.now lists.old.values.items lists.old.sent.items lists.old.mail.items }
-        requires values { lists.old.values.items ≡ self.now.starts.items }
-        ensures outcome { RunsTo (lone U.answer self.now.program.now self.now.graph.now self.now.arcs.now) rounds result lists.new.values.items }
+        requires values { lists.old.values.items ≡ self.now.starts.now }
+        ensures outcome { RunsTo (rounds_from U.answer self.now.program.now self.now.graph.now self.now.starts.now self.now.arcs.now) rounds result lists.new.values.items }
         ensures calls { U.calls updater.new ≡ U.calls updater.old + length self.now.graph.now.ids * rounds_run (number_of rounds) result }
     {
         match rounds {
@@ -108,11 +111,16 @@ impl Setting<'_> {
         }
     }
 
-    // Takes them on until nothing changes, and so many rounds at most.
-    fn run_within<U: Updater>(&self, limit: u32, lists: &mut Lists, updater: &mut U) -> Outcome
+    /// Takes the values on from the start until nothing changes, and so many rounds at most.
+    pub(crate) fn run_within<U: Updater>(
+        &self,
+        limit: u32,
+        lists: &mut Lists,
+        updater: &mut U,
+    ) -> Outcome
         requires sizes { HasSizes self.now.graph.now lists.old.values.items lists.old.sent.items lists.old.mail.items }
-        requires values { lists.old.values.items ≡ self.now.starts.items }
-        ensures outcome { RunsWithin (lone U.answer self.now.program.now self.now.graph.now self.now.arcs.now) limit result lists.new.values.items }
+        requires values { lists.old.values.items ≡ self.now.starts.now }
+        ensures outcome { RunsWithin (rounds_from U.answer self.now.program.now self.now.graph.now self.now.starts.now self.now.arcs.now) limit result lists.new.values.items }
         ensures calls { U.calls updater.new ≡ U.calls updater.old + length self.now.graph.now.ids * rounds_run limit result }
     {
         for round in 0..limit {
@@ -126,8 +134,8 @@ impl Setting<'_> {
     // Takes them on for exactly so many rounds.
     fn run_for<U: Updater>(&self, count: u32, lists: &mut Lists, updater: &mut U)
         requires sizes { HasSizes self.now.graph.now lists.old.values.items lists.old.sent.items lists.old.mail.items }
-        requires values { lists.old.values.items ≡ self.now.starts.items }
-        ensures values { lists.new.values.items ≡ lone U.answer self.now.program.now self.now.graph.now self.now.arcs.now count }
+        requires values { lists.old.values.items ≡ self.now.starts.now }
+        ensures values { lists.new.values.items ≡ rounds_from U.answer self.now.program.now self.now.graph.now self.now.starts.now self.now.arcs.now count }
         ensures calls { U.calls updater.new ≡ U.calls updater.old + length self.now.graph.now.ids * count }
     {
         for _round in 0..count {

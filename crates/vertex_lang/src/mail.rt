@@ -1,9 +1,9 @@
 //! What a node has got in a round.
 
 ghost use Rattle.std.specs.Prelude.{◌≡◌, ◌<◌, ◌^◌, ◌+◌};
-ghost use Rattle.vertex_lang.specs.Mail.{no_mail, mail_with, mail_with_many, extreme_with, extreme_with_many, gathered_in, IsBounded};
+ghost use Rattle.vertex_lang.specs.Mail.{no_mail, mail_with, mail_with_many, extreme_with_many, gathered_in, IsBounded};
 
-use crate::arithmetic::{clamp_number, greater_of, lesser_of};
+use crate::arithmetic::{clamp_number, join};
 use crate::program::Gather;
 use graph_model::Val;
 
@@ -79,19 +79,7 @@ impl Mail {
     }
 }
 
-// The least or the greatest message with one message more.
-fn join(kind: Gather, extreme: Val, message: Val) -> Val
-    ensures { result ≡ extreme_with kind extreme message }
-{
-    match kind {
-        Gather::Min => lesser_of(extreme, message),
-        Gather::Max => greater_of(extreme, message),
-        Gather::Sum => extreme,
-        Gather::Count => extreme,
-    }
-}
-
-// The same with a message that is there so often.
+// The least or the greatest message with a message more that is there so often.
 fn join_many(kind: Gather, extreme: Val, message: Val, times: u64) -> Val
     ensures { result ≡ extreme_with_many kind extreme message times }
 {

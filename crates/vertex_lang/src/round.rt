@@ -1,7 +1,8 @@
 //! One round of a program over all nodes.
 
 ghost use Rattle.std.specs.Prelude.{◌≡◌, ◌≢◌, ◌<◌, ◌^◌, ◌+◌, length, map, EachIndex, MatchBool, get_or};
-ghost use Rattle.vertex_lang.specs.Rounds.{nodes_of, next};
+ghost use Rattle.vertex_lang.specs.Rounds.{nodes_of};
+ghost use Rattle.vertex_lang.specs.Phases.{next_with};
 ghost use Rattle.vertex_lang.specs.Mail.{no_mail, next_from, TellsChange};
 ghost use Rattle.vertex_lang.specs.Settings.{HasSizes};
 
@@ -15,7 +16,7 @@ impl Setting<'_> {
     pub(crate) fn advance<U: Updater>(&self, lists: &mut Lists, updater: &mut U) -> bool
         requires sizes { HasSizes self.now.graph.now lists.old.values.items lists.old.sent.items lists.old.mail.items }
         ensures sizes { HasSizes self.now.graph.now lists.new.values.items lists.new.sent.items lists.new.mail.items }
-        ensures values { lists.new.values.items ≡ next U.answer self.now.program.now self.now.graph.now self.now.arcs.now lists.old.values.items }
+        ensures values { lists.new.values.items ≡ next_with U.answer self.now.program.now self.now.graph.now self.now.starts.now self.now.arcs.now lists.old.values.items }
         ensures changed { TellsChange result lists.new.values.items lists.old.values.items }
         ensures calls { U.calls updater.new ≡ U.calls updater.old + length self.now.graph.now.ids }
     {
@@ -28,7 +29,7 @@ impl Setting<'_> {
         requires mail_size { length mail.now ≡ length self.now.graph.now.ids }
         requires counts { EachIndex mail.now (λ v. (get_or mail.now v no_mail).count < 2 ^ 32) }
         requires values_size { length values.old ≡ length self.now.graph.now.ids }
-        ensures values { values.new ≡ map (next_from U.answer self.now.program.now self.now.graph.now self.now.starts.items mail.now values.old) (nodes_of self.now.graph.now) }
+        ensures values { values.new ≡ map (next_from U.answer self.now.program.now self.now.graph.now self.now.starts.now mail.now values.old) (nodes_of self.now.graph.now) }
         ensures changed { TellsChange result values.new values.old }
         ensures calls { U.calls updater.new ≡ U.calls updater.old + length self.now.graph.now.ids }
     {

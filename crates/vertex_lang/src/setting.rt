@@ -1,11 +1,10 @@
 //! The parts of a run that stay the same in all its rounds, and the lists that it works on.
 
-ghost use Rattle.std.specs.Prelude.{◌≡◌, ◌<◌, ◌^◌, length, map, All, IfOk};
+ghost use Rattle.std.specs.Prelude.{◌≡◌, ◌<◌, ◌^◌, length, All, IfOk};
 ghost use Rattle.vertex_lang.specs.Arcs.{IsArc};
-ghost use Rattle.vertex_lang.specs.Expressions.{start_of};
 ghost use Rattle.vertex_lang.specs.Leaves.{IsChecked};
 ghost use Rattle.vertex_lang.specs.Mail.{HasDegrees};
-ghost use Rattle.vertex_lang.specs.Rounds.{nodes_of};
+ghost use Rattle.vertex_lang.specs.Phases.{starts_of};
 ghost use Rattle.vertex_lang.specs.Settings.{IsSetting, HasSizes};
 
 use crate::arc::Arc;
@@ -28,8 +27,8 @@ pub(crate) struct Setting<'a> {
     /// Whether the message of a node is the same along all arcs that leave it.
     pub(crate) alike: bool,
     /// The value with which each node starts.
-    pub(crate) starts: Vec<Val>,
-    ghost fits: { IsSetting program.now graph.now arcs.now degrees.items alike starts.items },
+    pub(crate) starts: &'a [Val],
+    ghost fits: { IsSetting program.now graph.now arcs.now degrees.items alike starts.now },
 }
 
 /// What a run works on, by node number.
@@ -44,23 +43,25 @@ pub(crate) struct Lists {
 }
 
 impl<'a> Setting<'a> {
-    /// The degrees and the starts are computed here, once for a run.
+    /// The degrees are computed here, once for a run.
     pub(crate) fn new(
         alloc: Global,
         program: &'a Program,
         graph: &'a Graph,
         arcs: &'a [Arc],
+        starts: &'a [Val],
     ) -> Result<Setting<'a>, NoMemory>
         requires checked { IsChecked program.now graph.now }
         requires arcs { All (IsArc graph.now) arcs.now }
         requires few { length arcs.now < 2 ^ 32 }
+        requires starts { length starts.now ≡ length graph.now.ids }
         ensures program { IfOk result (λ s. s.program.now ≡ program.now) }
         ensures graph { IfOk result (λ s. s.graph.now ≡ graph.now) }
         ensures arcs { IfOk result (λ s. s.arcs.now ≡ arcs.now) }
+        ensures starts { IfOk result (λ s. s.starts.now ≡ starts.now) }
     {
         let degrees = count_degrees(alloc, graph, arcs)?;
         let alike = ignores_edge(&program.send);
-        let starts = start_values(alloc, program, graph)?;
         Ok(Setting {
             program,
             graph,
@@ -76,10 +77,10 @@ impl Lists {
     /// The values are those of the start.
     pub(crate) fn new(alloc: Global, setting: &Setting<'_>) -> Result<Lists, NoMemory>
         ensures sizes { IfOk result (λ l. HasSizes setting.now.graph.now l.values.items l.sent.items l.mail.items) }
-        ensures values { IfOk result (λ l. l.values.items ≡ setting.now.starts.items) }
+        ensures values { IfOk result (λ l. l.values.items ≡ setting.now.starts.now) }
     {
         let count = setting.graph.node_count() as usize;
-        let values = Vec::from_slice(alloc, &setting.starts)?;
+        let values = Vec::from_slice(alloc, setting.starts)?;
         let sent = vec![in alloc; Val::Nil; count]?;
         let mail = vec![in alloc; Mail::new(); count]?;
         Ok(Lists { values, sent, mail })
@@ -101,10 +102,14 @@ fn count_degrees(alloc: Global, graph: &Graph, arcs: &[Arc]) -> Result<Vec<u64>,
     Ok(degrees)
 }
 
-// The value with which each node starts, by its number.
-fn start_values(alloc: Global, program: &Program, graph: &Graph) -> Result<Vec<Val>, NoMemory>
+/// The value with which each node starts, by its number.
+pub(crate) fn start_values(
+    alloc: Global,
+    program: &Program,
+    graph: &Graph,
+) -> Result<Vec<Val>, NoMemory>
     requires { IsChecked program.now graph.now }
-    ensures { IfOk result (λ v. v.items ≡ map (start_of program.now graph.now) (nodes_of graph.now)) }
+    ensures { IfOk result (λ v. v.items ≡ starts_of program.now graph.now) }
 {
     let count = graph.node_count();
     let mut values = Vec::with_capacity(alloc, count as usize)?;

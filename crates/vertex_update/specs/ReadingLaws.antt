@@ -102,3 +102,8 @@ gives-found answer p graph v words start own ms count next low is_start is_own i
     ∙ ap (λ s. updated_by answer p (id_of graph v.0) s (told own) ms) first
     ∙ ap (λ s. updated_by answer p (id_of graph v.0) (single (expanded start_in words)) s ms) second
     ∙ ap (λ es. updated_by answer p (id_of graph v.0) (single (expanded start_in words)) (single (expanded own_in words)) es) is_ms))
+
+-- a value is given once at most
+pub few-given : (next : Option Val) → length (given_of next) ≤ 1
+few-given None = omega arith
+few-given (Some v) = omega arith

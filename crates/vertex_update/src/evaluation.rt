@@ -14,8 +14,8 @@ use vertex_items::NodeItem;
 use vertex_lang::{Program, Updater, gather};
 use weighted::Weight;
 
-/// The next value of a node of which this was found, or None where that isn't proper. It calls the updater once at
-/// most.
+/// The next value of a node of which this was found, or None where that isn't proper. It calls the updater once where
+/// there is a next value, and else not.
 fn next_value<U: Updater>(
     program: &Program,
     graph: &Graph,
@@ -27,8 +27,7 @@ fn next_value<U: Updater>(
     requires node { node.0 < length graph.now.ids }
     requires found { IsFound found.now.messages.items found.now.count }
     ensures value { result ≡ next_of U.answer program.now graph.now node.0 found.now.start found.now.own found.now.messages.items found.now.count }
-    ensures calls { U.calls updater.old ≤ U.calls updater.new }
-    ensures cost { U.calls updater.new ≤ U.calls updater.old + 1 }
+    ensures calls { U.calls updater.new ≡ U.calls updater.old + length (given_of result) }
 {
     let Single::One(start) = found.start else {
         return None;
@@ -54,8 +53,9 @@ fn push_value(into: &mut List<(Val, Weight)>, value: Option<Val>) -> Result<(), 
     Ok(())
 }
 
-/// Writes into `into` what a node gives under these words. It calls the updater once at most. The one error is want of
-/// memory; `into` is then any list.
+/// Writes into `into` what a node gives under these words. It calls the updater once where the node gives a value, and
+/// else, as under words that aren't proper, not at all. The one error is want of memory; `into` is then any list, and the
+/// updater was called once at most, and only where the node gives a value.
 pub fn evaluate<U: Updater>(
     alloc: Global,
     program: &Program,
@@ -68,6 +68,8 @@ pub fn evaluate<U: Updater>(
     requires checked { IsChecked program.now graph.now }
     requires into { into.old ≡ [] }
     ensures answer { OnOk result (into.new ≡ node_gives U.answer program.now graph.now node words.now) }
+    ensures made { OnOk result (U.calls updater.new ≡ U.calls updater.old + length (node_gives U.answer program.now graph.now node words.now)) }
+    ensures most { U.calls updater.new ≤ U.calls updater.old + length (node_gives U.answer program.now graph.now node words.now) }
     ensures calls { U.calls updater.old ≤ U.calls updater.new }
     ensures cost { U.calls updater.new ≤ U.calls updater.old + 1 }
 {

@@ -14,13 +14,13 @@ returns-in-Num c =
     let fits_base : SFits w64 d.base = search rules in
     let fits_factor : SFits w64 d.factor = search rules in
     let fits_divisor : SFits w64 d.divisor = search rules in
-    let fits_product : SFits w64 c.product.result = record { sfits = c.product.type_inv } in
-    let fits_share : SFits w64 c.quotient-share.result = record { sfits = c.quotient-share.type_inv } in
-    let fits_sum : SFits w64 c.sum.result = record { sfits = c.sum.type_inv } in
-    ap (λ (z : ℤ). Num z) (to_z-of_z w64 c.sum.result fits_sum)
-    ∙ damped_is number d.base d.factor d.divisor c.product.result c.quotient-share.result c.sum.result
+    let fits_product : SFits w64 c.product_of.result = record { sfits = c.product_of.type_inv } in
+    let fits_share : SFits w64 c.quotient_of-share.result = record { sfits = c.quotient_of-share.type_inv } in
+    let fits_sum : SFits w64 c.sum_of.result = record { sfits = c.sum_of.type_inv } in
+    ap (λ (z : ℤ). Num z) (to_z-of_z w64 c.sum_of.result fits_sum)
+    ∙ damped_is number d.base d.factor d.divisor c.product_of.result c.quotient_of-share.result c.sum_of.result
     (λ is_zero. c.if-damping-ne0.true (ap (λ (z : ℤ). of_z w64 z) is_zero))
-    (simp to_z-of_z at c.product.ensures.product)
-    (simp to_z-of_z at c.quotient-share.ensures)
-    (simp to_z-of_z at c.sum.ensures)
+    (simp to_z-of_z at c.product_of.ensures)
+    (simp to_z-of_z at c.quotient_of-share.ensures)
+    (simp to_z-of_z at c.sum_of.ensures)
     ∙ ap (λ (v : Val). added true (Num d.base) (divided (multiplied v (Num d.factor)) (Num d.divisor))) (sym c.in-Num.is)

@@ -1,15 +1,12 @@
 use Rattle.std.proofs.Common.{◌≡◌, ◌∙◌, ◌<◌, List, map, ap, sym, subst, length, length-take, take_at, arith}
-use Rattle.std.proofs.lemmas.List.FromFn.{get_or-map-range_with_len}
 use Rattle.graph_model.specs.declared.value.Val.{Val}
-use Rattle.graph_model.specs.declared.value.Val.TheVariants.{Nil}
 use Rattle.graph_model.specs.GraphData.{id_of}
 use Rattle.vertex_lang.specs.declared.mail.Mail.{Mail}
-use Rattle.vertex_lang.specs.Expressions.{start_of}
-use Rattle.vertex_lang.specs.Arcs.{gathered_of}
-use Rattle.vertex_lang.specs.Rounds.{value_at, nodes_of, next, next_of, received, carried}
+use Rattle.vertex_lang.specs.Phases.{next_with, next_with_of}
+use Rattle.vertex_lang.specs.RoundLaws.{same_over_nodes}
+use Rattle.vertex_lang.specs.Rounds.{value_at, nodes_of, received, carried}
 use Rattle.vertex_lang.specs.Mail.{next_from, gathered_in, HasMail}
 use Rattle.vertex_lang.proofs.Deliveries.{messages_small, gathered_is}
-use Rattle.vertex_lang.proofs.Updates.{same_over_nodes}
 use Rattle.vertex_lang.proofs.setting.Setting.advance.Goals as goal
 
 pub update_all-requires-clause-counts : goal.update_all-requires-clause-counts
@@ -26,13 +23,13 @@ update_all-requires-clause-counts g c =
     λ i low. omega (arith, ap (λ (m : Mail). m.count) (has i low), messages_small f arcs i, c.args.self.now.fits.few)
 
 pub returns-clause-values : goal.returns-clause-values
-unfolding next
+unfolding next_with
 returns-clause-values g c =
     let p = c.args.self.now.program.now in
     let graph = c.args.self.now.graph.now in
     let arcs = c.args.self.now.arcs.now in
     let old = c.args.lists.now.values.items in
-    let starts = c.args.self.now.starts.items in
+    let starts = c.args.self.now.starts.now in
     let mail = c.deref-2.result.now in
     let f = carried p graph arcs old in
     let same : c.deref-2.result.now ≡ c.deliver.new.mail =
@@ -43,10 +40,8 @@ returns-clause-values g c =
     let n = length graph.ids in
     let was : c.deref_mut-3.result.now ≡ old = c.deref_mut-3.ensures.value in
     let kept = take_at c.update_all.new.values _ c.args.lists.now.values.len (omega (arith, c.update_all.auto.values, c.args.lists.now.values.ok, length-take c.args.lists.now.values.len c.args.lists.now.values.items, ap (λ (vs : List Val). length vs) was)) in
-    kept ∙ c.update_all.ensures.values ∙ ap (λ (vs : List Val). map (next_from answer p graph starts mail vs) (nodes_of graph)) was ∙ same_over_nodes (next_from answer p graph starts mail old) (next_of answer p graph arcs old) n (λ k low.
+    kept ∙ c.update_all.ensures.values ∙ ap (λ (vs : List Val). map (next_from answer p graph starts mail vs) (nodes_of graph)) was ∙ same_over_nodes (next_from answer p graph starts mail old) (next_with_of answer p graph starts arcs old) n (λ k low.
     let ms = received p graph arcs old k in
     let within : k < length mail = omega (arith, ap (λ (xs : List Mail). length xs) same, c.deliver.auto.mail, c.requires.sizes.mail_size) in
-    let start : value_at starts k ≡ start_of p graph k = ap (λ (vs : List Val). value_at vs k) c.args.self.now.fits.started ∙ get_or-map-range_with_len (start_of p graph) 0 n k k Nil low (omega arith) in
     ap (λ (m : Mail). answer p (id_of graph k) (value_at starts k) (value_at old k) (gathered_in p.gather m) m.count) (has k within)
-    ∙ ap (λ (v : Val). answer p (id_of graph k) (value_at starts k) (value_at old k) v (length ms)) (gathered_is p.gather ms)
-    ∙ ap (λ (v : Val). answer p (id_of graph k) v (value_at old k) (gathered_of p.gather ms) (length ms)) start)
+    ∙ ap (λ (v : Val). answer p (id_of graph k) (value_at starts k) (value_at old k) v (length ms)) (gathered_is p.gather ms))

@@ -1,12 +1,12 @@
 use Rattle.std.proofs.Common.{◌≡◌, ◌∙◌, ◌+◌, ap, sym, arith}
-use Rattle.vertex_lang.specs.Rounds.{lone, next}
-use Rattle.vertex_lang.specs.RoundLaws.{lone_starts, lone_next}
+use Rattle.vertex_lang.specs.Phases.{rounds_from, next_with}
+use Rattle.vertex_lang.specs.PhaseLaws.{from_starts, from_next}
 use Rattle.vertex_lang.proofs.setting.Setting.run_for.Goals as goal
 
 pub loop-round-init : goal.loop-round-init
 loop-round-init g c = record {
   sizes = c.requires.sizes;
-  values = c.requires.values ∙ c.args.self.now.fits.started ∙ sym (lone_starts g.U.Updater.answer c.args.self.now.program.now c.args.self.now.graph.now c.args.self.now.arcs.now);
+  values = c.requires.values ∙ sym (from_starts g.U.Updater.answer c.args.self.now.program.now c.args.self.now.graph.now c.args.self.now.starts.now c.args.self.now.arcs.now);
   calls = omega arith;
 }
 
@@ -15,9 +15,10 @@ loop-round-preserved g c =
     let answer = g.U.Updater.answer in
     let p = c.args.self.now.program.now in
     let graph = c.args.self.now.graph.now in
+    let starts = c.args.self.now.starts.now in
     let arcs = c.args.self.now.arcs.now in
     let r = c.loop-round._round in
-    let later : c.advance.new.lists.values.items ≡ lone answer p graph arcs (r + 1) = c.advance.ensures.values ∙ ap (next answer p graph arcs) c.loop-round.invariant.values ∙ sym (lone_next answer p graph arcs r) in
+    let later : c.advance.new.lists.values.items ≡ rounds_from answer p graph starts arcs (r + 1) = c.advance.ensures.values ∙ ap (next_with answer p graph starts arcs) c.loop-round.invariant.values ∙ sym (from_next answer p graph starts arcs r) in
     record {
       sizes = c.advance.ensures.sizes;
       values = later;

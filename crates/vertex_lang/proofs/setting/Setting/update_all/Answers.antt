@@ -1,23 +1,12 @@
-use Rattle.std.proofs.Common.{◌≡◌, ◌∙◌, ◌<◌, List, ap, length, map, get_or, arith}
+use Rattle.std.proofs.Common.{◌≡◌, ◌∙◌, ◌<◌, ap, length, map, get_or, arith}
 use Rattle.std.specs.List.{range_with_len}
-use Rattle.std.proofs.lemmas.List.{get_or_read}
-use Rattle.std.proofs.lemmas.List.FromFn.{length-map-range_with_len}
 use Rattle.graph_model.specs.declared.value.Val.{Val}
-use Rattle.graph_model.specs.declared.value.Val.TheVariants.{Nil}
 use Rattle.graph_model.specs.GraphData.{id_of}
-use Rattle.vertex_lang.specs.Expressions.{start_of}
 use Rattle.vertex_lang.specs.Rounds.{value_at}
 use Rattle.vertex_lang.specs.Mail.{next_from, no_mail, gathered_in}
 use Rattle.vertex_lang.proofs.Updates.{update_after_change, update_first, all_updated, change_told}
 use Rattle.vertex_lang.proofs.setting.Setting.update_all.Goals as goal
 use Rattle.vertex_lang.proofs.setting.Setting.update_all.Goals.{then-changed, else-changed}
-
-pub index-requires : goal.index-requires
-index-requires g c =
-    let graph = c.args.self.now.graph.now in
-    let size : length c.args.self.now.starts.items ≡ length graph.ids =
-    ap (λ (vs : List Val). length vs) c.args.self.now.fits.started ∙ length-map-range_with_len (start_of c.args.self.now.program.now graph) 0 (length graph.ids) in
-    omega (arith, size, c.loop-node-test.true, c.node_count-node-end.ensures.count, c.loop-node.auto.node-end)
 
 pub loop-node-preserved : goal.loop-node-preserved
 loop-node-preserved g c =
@@ -25,20 +14,14 @@ loop-node-preserved g c =
     let now = c.loop-node.values in
     let n = c.loop-node.node in
     let u = c.loop-node.invariant.updated in
-    let f = next_from g.U.Updater.answer c.args.self.now.program.now c.args.self.now.graph.now c.args.self.now.starts.items c.args.mail.now old in
+    let f = next_from g.U.Updater.answer c.args.self.now.program.now c.args.self.now.graph.now c.args.self.now.starts.now c.args.mail.now old in
     let got = get_or c.args.mail.now n no_mail in
     let lt : n < length now = omega arith in
-    let starts = c.args.self.now.starts.items in
-    let size : length starts ≡ length c.args.self.now.graph.now.ids =
-    ap (λ (vs : List Val). length vs) c.args.self.now.fits.started ∙ length-map-range_with_len (start_of c.args.self.now.program.now c.args.self.now.graph.now) 0 (length c.args.self.now.graph.now.ids) in
-    let inside : n < length starts = omega (arith, size, lt, c.loop-node.auto.values, c.requires.values_size) in
-    let read = get_or_read starts n c.index.result.now inside c.index.ensures Nil in
     let next : c.update-new.result ≡ f n =
     c.update-new.ensures.answer
-    ∙ ap (λ (s : Val). g.U.Updater.answer c.args.self.now.program.now c.id-id.result s (value_at now n) c.gathered-gathered.result got.count) read
-    ∙ ap (λ (v : Val). g.U.Updater.answer c.args.self.now.program.now c.id-id.result (value_at c.args.self.now.starts.items n) (value_at now n) v got.count) c.gathered-gathered.ensures
-    ∙ ap (λ i. g.U.Updater.answer c.args.self.now.program.now i (value_at c.args.self.now.starts.items n) (value_at now n) (gathered_in c.args.self.now.program.now.gather got) got.count) c.id-id.ensures.value
-    ∙ ap (λ (v : Val). g.U.Updater.answer c.args.self.now.program.now (id_of c.args.self.now.graph.now n) (value_at c.args.self.now.starts.items n) v (gathered_in c.args.self.now.program.now.gather got) got.count) (u.left n (omega arith)) in
+    ∙ ap (λ (v : Val). g.U.Updater.answer c.args.self.now.program.now c.id-id.result (value_at c.args.self.now.starts.now n) (value_at now n) v got.count) c.gathered-gathered.ensures
+    ∙ ap (λ i. g.U.Updater.answer c.args.self.now.program.now i (value_at c.args.self.now.starts.now n) (value_at now n) (gathered_in c.args.self.now.program.now.gather got) got.count) c.id-id.ensures.value
+    ∙ ap (λ (v : Val). g.U.Updater.answer c.args.self.now.program.now (id_of c.args.self.now.graph.now n) (value_at c.args.self.now.starts.now n) v (gathered_in c.args.self.now.program.now.gather got) got.count) (u.left n (omega arith)) in
     record {
       updated = elim c.if-changed.branch [
         | then-changed w ↦ update_after_change f old now n c.update-new.result lt next c.loop-node.changed c.if-changed.changed u w.if-changed.true w.changed-is
@@ -49,7 +32,7 @@ loop-node-preserved g c =
 
 pub returns-clause-values : goal.returns-clause-values
 returns-clause-values g c =
-    let f = next_from g.U.Updater.answer c.args.self.now.program.now c.args.self.now.graph.now c.args.self.now.starts.items c.args.mail.now c.args.values.now in
+    let f = next_from g.U.Updater.answer c.args.self.now.program.now c.args.self.now.graph.now c.args.self.now.starts.now c.args.mail.now c.args.values.now in
     let all : c.loop-node.node ≡ length c.args.self.now.graph.now.ids = omega arith in
     all_updated f c.args.values.now c.loop-node.values c.loop-node.node c.loop-node.changed (omega arith) c.loop-node.invariant.updated ∙ ap (λ n. map f (range_with_len 0 n)) all
 

@@ -1,5 +1,0 @@
--- The ledger of the steps is the new one.
-use Rattle.quick_updates.proofs.tests.answer.Given as goal
-
-abbrev pub ghosts-answer_in : goal.ghosts-answer_in
-ghosts-answer_in a = record { name = a.blank.name; parts = a.blank.parts }

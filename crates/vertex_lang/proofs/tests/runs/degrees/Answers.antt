@@ -1,7 +1,0 @@
-use Rattle.std.proofs.Common.{refl}
-use Rattle.vertex_lang.specs.Trees.{leaves-Gathered, leaves-Id, leaves-Outdeg}
-use Rattle.vertex_lang.proofs.SmallGraphs.{fits}
-use Rattle.vertex_lang.proofs.tests.runs.degrees.Goals as goal
-
-pub returns : goal.returns
-returns c = λ graph. fits _ graph _ _ _ leaves-Id leaves-Outdeg leaves-Gathered refl refl refl
