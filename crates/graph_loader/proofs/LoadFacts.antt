@@ -1,43 +1,20 @@
--- The answer of a load, from what its two files spell.
-use Rattle.std.proofs.Common.{◌≡◌, ◌≢◌, ◌≤◌, ◌∙◌, sym, refl, ap, subst, ℕ, List, [], ◌∷◌, length, map, Option, Some, None, Result, Ok, Err}
+-- The answer of a load, from what its two files spell, and of an extension, from what its file spells.
+use Rattle.std.proofs.Common.{◌≡◌, ◌≢◌, ◌≤◌, ◌∙◌, sym, ap, subst, arith, ℕ, List, [], length, map, None, Ok, Err}
 use Rattle.graph_model.specs.declared.cell.Cells.{Cells}
 use Rattle.graph_model.specs.declared.cell.Column.{Column}
-use Rattle.graph_model.specs.declared.cell.Kind.{Kind}
 use Rattle.graph_model.specs.declared.number.NodeNo.{NodeNo}
-use Rattle.graph_model.specs.GraphData.{IsGraphData, graph_data}
-use Rattle.graph_loader.specs.declared.fault.Blame.{Blame}
-use Rattle.graph_loader.specs.declared.fault.DataFault.{DataFault}
-use Rattle.graph_loader.specs.declared.fault.DataFile.{DataFile}
+use Rattle.graph_model.specs.GraphData.{GraphData, IsGraphData, graph_data, with_edges}
 use Rattle.graph_loader.specs.declared.fault.DataFile.TheVariants as file
 use Rattle.graph_loader.specs.declared.fault.DataKind.TheVariants as wrong
 use Rattle.graph_loader.specs.declared.fault.LoadFault.{LoadFault}
 use Rattle.graph_loader.specs.declared.fault.LoadFault.TheVariants as load
 use Rattle.graph_loader.specs.Answers.{IfFault}
-use Rattle.graph_loader.specs.DataFiles.{Row, Table, cells_of, columns_after, edge_fault, edges_table, ends_of_row, fault_in, first_words, graph_of, graph_over, graph_with, id_of_row, ids_of, kinds_of, node_fault, nodes_table, records_of, result_and_then, result_map, result_map_err, rows_fault, table, table_in, unless_error}
-use Rattle.graph_loader.specs.LoadSteps.{SpellsEdges, SpellsNodes}
-use Rattle.graph_loader.proofs.ColumnFacts.{AreColumns, columns-are}
-use Rattle.graph_loader.proofs.GraphFacts.{ends-are, graph-fits, ids-are}
-use Rattle.graph_loader.proofs.SizeFacts.{fault-of-no-size}
-
--- what holds of a table that a file spells
-table-holds : (of : DataFile) (fault : List Kind → List Row → Option DataFault) (records : List Row) (columns : List Column) (rows : List Row)
-    → table_in of fault records ≡ Ok (table columns rows) → AreColumns columns × (fault (kinds_of columns) rows ≡ None)
-table-holds of fault [] columns rows e = absurd (cc)
-table-holds of fault (header ∷ left) columns rows e = cases (columns_after 1 (first_words of) header) refl e where
-  judged : (cs : List Column) (o : Option DataFault) → AreColumns cs → fault (kinds_of cs) left ≡ o → unless_error o (table cs left) ≡ Ok (table columns rows)
-      → AreColumns columns × (fault (kinds_of columns) rows ≡ None)
-  judged cs None a q e =
-      let same : table cs left ≡ table columns rows = cc in
-      let c : cs ≡ columns = ap (λ (t : Table). t.columns) same in
-      let r : left ≡ rows = ap (λ (t : Table). t.rows) same in
-      (subst AreColumns c a, ap (λ k. fault (kinds_of k) rows) (sym c) ∙ ap (fault (kinds_of cs)) (sym r) ∙ q)
-  judged cs (Some f) a q e = absurd (cc)
-
-  cases : (r : Result (List Column) Blame) → columns_after 1 (first_words of) header ≡ r
-      → result_and_then (λ cs. unless_error (fault (kinds_of cs) left) (table cs left)) (result_map_err (fault_in of 1) r) ≡ Ok (table columns rows)
-      → AreColumns columns × (fault (kinds_of columns) rows ≡ None)
-  cases (Ok cs) q e = judged cs (fault (kinds_of cs) left) (columns-are (first_words of) header 1 cs q) refl e
-  cases (Err b) q e = absurd (cc)
+use Rattle.graph_loader.specs.DataFiles.{cells_of, edge_fault, edges_table, ends_of_row, extended, graph_of, graph_over, graph_with, id_of_row, ids_of, insert_rows, kinds_of, node_fault, nodes_table, records_of, result_and_then, result_map, rows_fault, table, with_rows}
+use Rattle.graph_loader.specs.LoadSteps.{SpellsEdges, SpellsMore, SpellsNodes}
+use Rattle.graph_loader.specs.ColumnLaws.{AreColumns}
+use Rattle.graph_loader.specs.LoadLaws.{table-holds}
+use Rattle.graph_loader.specs.GraphLaws.{ends-are, graph-fits, ids-are}
+use Rattle.graph_loader.proofs.SizeFacts.{fault-of-no-size, insert-of-no-size}
 
 module _ (nodes keys : List ℕ) (node_columns : List Column) (node_cells : List Cells) (s : SpellsNodes nodes keys node_columns node_cells) where
   holds-nodes : AreColumns node_columns × (rows_fault file.Nodes (node_fault (kinds_of node_columns)) id_of_row [] s.rows ≡ None)
@@ -68,11 +45,11 @@ module _ (nodes keys : List ℕ) (node_columns : List Column) (node_cells : List
 
     pub is-graph : IsGraphData (graph_data keys node_columns node_cells ends edge_columns edge_cells)
     is-graph =
-        let h = table-holds file.Edges (λ kinds. rows_fault file.Edges (edge_fault kinds keys) (ends_of_row keys) []) (records_of edges) edge_columns t.rows t.file in
+        let h = table-holds file.Edges (λ kinds. rows_fault file.Edges (edge_fault 0 kinds keys) (ends_of_row keys) []) (records_of edges) edge_columns t.rows t.file in
         let i = ids-are (kinds_of node_columns) s.rows holds-nodes.1 in
-        let judged : rows_fault file.Edges (edge_fault (kinds_of edge_columns) (ids_of s.rows)) (ends_of_row (ids_of s.rows)) [] t.rows ≡ None =
-        ap (λ k. rows_fault file.Edges (edge_fault (kinds_of edge_columns) k) (ends_of_row k) [] t.rows) (sym s.ids) ∙ h.1 in
-        let e = ends-are (ids_of s.rows) (kinds_of edge_columns) t.rows judged in
+        let judged : rows_fault file.Edges (edge_fault 0 (kinds_of edge_columns) (ids_of s.rows)) (ends_of_row (ids_of s.rows)) [] t.rows ≡ None =
+        ap (λ k. rows_fault file.Edges (edge_fault 0 (kinds_of edge_columns) k) (ends_of_row k) [] t.rows) (sym s.ids) ∙ h.1 in
+        let e = ends-are file.Edges 0 (ids_of s.rows) (kinds_of edge_columns) t.rows (omega arith) judged in
         subst IsGraphData same-graph (graph-fits s.rows t.rows node_columns edge_columns holds-nodes.0 h.0 i e)
 
 -- the first fault of the nodes file
@@ -83,3 +60,20 @@ nodes-stop nodes edges (load.Fault f) h = ap (result_and_then (graph_over edges)
 pub of-no-size : (nodes edges : List ℕ) (e : LoadFault) → IfFault e (λ f. graph_of nodes edges ≡ Err f) → IfFault e (λ f. f.kind ≢ wrong.TooLarge)
 of-no-size nodes edges load.NoMemory h = tt
 of-no-size nodes edges (load.Fault f) h = fault-of-no-size nodes edges f h
+
+-- ---- a further file
+
+pub more-stop : (statement : ℕ) (bytes : List ℕ) (g : GraphData) (e : LoadFault) → IfFault e (λ f. insert_rows statement g (records_of bytes) ≡ Err f)
+    → IfFault e (λ f. extended statement bytes g ≡ Err f)
+more-stop statement bytes g load.NoMemory h = tt
+more-stop statement bytes g (load.Fault f) h = ap (result_map (with_rows g)) h
+
+pub more-of-no-size : (statement : ℕ) (bytes : List ℕ) (g : GraphData) (e : LoadFault) → IfFault e (λ f. insert_rows statement g (records_of bytes) ≡ Err f) → IfFault e (λ f. f.kind ≢ wrong.TooLarge)
+more-of-no-size statement bytes g load.NoMemory h = tt
+more-of-no-size statement bytes g (load.Fault f) h = insert-of-no-size statement g (records_of bytes) f h
+
+pub more-added : (statement : ℕ) (bytes : List ℕ) (g new : GraphData) (ends : List (NodeNo × NodeNo)) (lists : List Cells) → SpellsMore statement bytes g ends lists
+    → new ≡ with_edges g ends lists → extended statement bytes g ≡ Ok new
+more-added statement bytes g new ends lists s n =
+    ap (result_map (with_rows g)) s.file ∙ ap (λ x. Ok (with_edges g x (cells_of s.rows 2 (kinds_of g.edge_columns)))) (sym s.ends) ∙ ap (λ x. Ok (with_edges g ends x)) (sym s.cells)
+    ∙ ap (λ x. Ok x) (sym n)

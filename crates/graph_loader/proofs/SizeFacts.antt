@@ -1,5 +1,5 @@
 -- No fault of the definition is one of size.
-use Rattle.std.proofs.Common.{◌≡◌, ◌≢◌, subst, refl, ℕ, ◌+◌, Bool, true, false, ◌==◌, List, [], ◌∷◌, ◌++◌, length, Option, Some, None, option_map, Result, Ok, Err, if◌then◌else◌}
+use Rattle.std.proofs.Common.{◌≡◌, ◌≢◌, ap, subst, refl, ℕ, ◌+◌, Bool, true, false, ◌==◌, List, [], ◌∷◌, ◌++◌, length, Option, Some, None, option_map, Result, Ok, Err, if◌then◌else◌}
 use Rattle.std.specs.Prelude.{not, nat_eq, nat_le, nat_lt, position, ok_or}
 use Rattle.std.specs.List.{list_any}
 use Rattle.std.specs.Result.{result_err}
@@ -8,14 +8,14 @@ use Rattle.graph_model.specs.declared.cell.Column.{Column}
 use Rattle.graph_model.specs.declared.cell.Kind.{Kind}
 use Rattle.graph_model.specs.declared.cell.Kind.TheVariants as kind
 use Rattle.graph_model.specs.declared.number.NodeNo.{NodeNo}
-use Rattle.graph_model.specs.GraphData.{node}
+use Rattle.graph_model.specs.GraphData.{GraphData, node}
 use Rattle.graph_loader.specs.declared.fault.Blame.{Blame}
 use Rattle.graph_loader.specs.declared.fault.DataFault.{DataFault}
 use Rattle.graph_loader.specs.declared.fault.DataFile.{DataFile}
 use Rattle.graph_loader.specs.declared.fault.DataFile.TheVariants as file
 use Rattle.graph_loader.specs.declared.fault.DataKind.{DataKind}
 use Rattle.graph_loader.specs.declared.fault.DataKind.TheVariants as wrong
-use Rattle.graph_loader.specs.DataFiles.{Row, Table, blame, cell_fault, cell_or_fault, cells_fault, columns_after, earlier_of, edge_fault, edges_table, end_named, ends_of_row, fault_in, field_of, first_words, graph_of, graph_over, graph_with, has_name, id_fault, id_of_row, ids_of, kinds_of, most_properties, new_column, node_fault, nodes_table, properties_from, property_in, records_of, result_and_then, result_map, result_map_err, rows_fault, table, table_in, unless_error}
+use Rattle.graph_loader.specs.DataFiles.{Row, Table, blame, cell_fault, cell_or_fault, cells_fault, columns_after, earlier_of, edge_fault, edges_table, end_named, ends_of_row, fault_in, field_of, first_words, graph_of, graph_over, graph_with, has_name, header_fault, id_fault, id_of_row, ids_of, insert_rows, insert_words, kinds_of, most_properties, new_column, no_header, node_fault, nodes_table, properties_from, property_in, records_of, result_and_then, result_map, result_map_err, rows_fault, table, table_in, unless_error}
 use Rattle.graph_loader.specs.Spelling.{bool_spelled, column_spelled, id_spelled, int_spelled}
 
 -- what is wrong, if anything, isn't the size
@@ -92,9 +92,9 @@ end ids (Some n) = cases (position (nat_eq n) ids) where
   cases None = only wrong.UnknownNode (λ e. cc)
   cases (Some place) = nothing
 
-edge-row : (kinds : List Kind) (ids : List ℕ) (ends : List (NodeNo × NodeNo)) (row : Row) → NoSize (edge_fault kinds ids ends row)
-edge-row kinds ids ends row =
-    either (nat_lt (length ends) 4_000_000) _ _
+edge-row : (before : ℕ) (kinds : List Kind) (ids : List ℕ) (ends : List (NodeNo × NodeNo)) (row : Row) → NoSize (edge_fault before kinds ids ends row)
+edge-row before kinds ids ends row =
+    either (nat_lt (before + length ends) 4_000_000) _ _
     (either (length row == length kinds + 2) _ _
     (first _ _ (blamed 1 _ (end ids (id_spelled (field_of row 0)))) (first _ _ (blamed 2 _ (end ids (id_spelled (field_of row 1)))) (row-cells row 2 kinds)))
     (whole wrong.WrongWidth (λ e. cc)))
@@ -165,7 +165,7 @@ nodes-fault bytes f e =
 
 edges-fault : (ids bytes : List ℕ) (f : DataFault) → edges_table ids bytes ≡ Err f → f.kind ≢ wrong.TooLarge
 edges-fault ids bytes f e =
-    file-fault file.Edges (λ kinds. rows_fault file.Edges (edge_fault kinds ids) (ends_of_row ids) []) (λ kinds. rows (NodeNo × NodeNo) file.Edges (edge_fault kinds ids) (ends_of_row ids) (edge-row kinds ids) [])
+    file-fault file.Edges (λ kinds. rows_fault file.Edges (edge_fault 0 kinds ids) (ends_of_row ids) []) (λ kinds. rows (NodeNo × NodeNo) file.Edges (edge_fault 0 kinds ids) (ends_of_row ids) (edge-row 0 kinds ids) [])
     (records_of bytes) f e
 
 pub fault-of-no-size : (nodes edges : List ℕ) (f : DataFault) → graph_of nodes edges ≡ Err f → f.kind ≢ wrong.TooLarge
@@ -177,3 +177,30 @@ fault-of-no-size nodes edges f e = cases (nodes_table nodes) refl e where
   cases : (r : Result Table DataFault) → nodes_table nodes ≡ r → result_and_then (graph_over edges) r ≡ Err f → f.kind ≢ wrong.TooLarge
   cases (Ok t) q e = over t (edges_table (ids_of t.rows) edges) refl e
   cases (Err g) q e = let same : g ≡ f = cc in subst (λ x. x.kind ≢ wrong.TooLarge) same (nodes-fault nodes g q)
+
+-- ---- a further file
+
+insert-header : (words : List (List ℕ)) (fields : Row) (column : ℕ) → NoSize (header_fault column words fields)
+unfolding NoSize
+insert-header [] [] column b e = absurd (cc)
+insert-header [] (field ∷ fields) column b e = let same : blame column wrong.BadHeader ≡ b = cc in subst (λ x. x.kind ≢ wrong.TooLarge) same (λ e. cc)
+insert-header (word ∷ words) [] column b e = let same : blame column wrong.BadHeader ≡ b = cc in subst (λ x. x.kind ≢ wrong.TooLarge) same (λ e. cc)
+insert-header (word ∷ words) (field ∷ fields) column b e = cases (bytes_eq field word) (insert-header words fields (column + 1) b) e where
+  cases : (t : Bool) → (header_fault (column + 1) words fields ≡ Some b → b.kind ≢ wrong.TooLarge)
+      → (if t then header_fault (column + 1) words fields else Some (blame column wrong.BadHeader)) ≡ Some b → b.kind ≢ wrong.TooLarge
+  cases true more e = more e
+  cases false more e = let same : blame column wrong.BadHeader ≡ b = cc in subst (λ x. x.kind ≢ wrong.TooLarge) same (λ e. cc)
+
+pub insert-of-no-size : (statement : ℕ) (g : GraphData) (records : List Row) (f : DataFault) → insert_rows statement g records ≡ Err f → f.kind ≢ wrong.TooLarge
+unfolding NoSize
+insert-of-no-size statement g [] f e = let same : no_header (file.Insert statement) ≡ f = cc in subst (λ x. x.kind ≢ wrong.TooLarge) same (λ e. cc)
+insert-of-no-size statement g (head ∷ left) f e =
+    judged (header_fault 1 (insert_words g.edge_columns) head) (rows_fault (file.Insert statement) (edge_fault (length g.ends) (kinds_of g.edge_columns) g.ids) (ends_of_row g.ids) [] left)
+    (insert-header (insert_words g.edge_columns) head 1)
+    (λ x. rows (NodeNo × NodeNo) (file.Insert statement) (edge_fault (length g.ends) (kinds_of g.edge_columns) g.ids) (ends_of_row g.ids) (edge-row (length g.ends) (kinds_of g.edge_columns) g.ids) [] left x) e
+  where
+    judged : (h : Option Blame) (o : Option DataFault) → NoSize h → ((x : DataFault) → o ≡ Some x → x.kind ≢ wrong.TooLarge)
+        → unless_error (earlier_of (option_map (fault_in (file.Insert statement) 1) h) o) left ≡ Err f → f.kind ≢ wrong.TooLarge
+    judged (Some b) o n m e = let same : fault_in (file.Insert statement) 1 b ≡ f = cc in subst (λ x. x.kind ≢ wrong.TooLarge) same (n b refl)
+    judged None (Some x) n m e = let same : x ≡ f = cc in m f (ap (λ y. Some y) same)
+    judged None None n m e = absurd (cc)

@@ -1,5 +1,5 @@
--- The graph that two data files spell, or their first fault. A file is cut into records, which are judged one after the
--- other. A record, or row, is the list of its fields, and a field is a list of bytes.
+-- The graph that two data files spell, or their first fault, and what further files of edges add to it. A file is cut into
+-- records, which are judged one after the other. A record, or row, is the list of its fields, and a field is a list of bytes.
 use Rattle.std.specs.Prelude.{ℕ, ℤ, ◌+◌, Bool, ◌==◌, not, nat_le, nat_lt, nat_eq, List, [], ◌∷◌, ◌++◌, length, map, get_or, position, codes, Option, Some, None, option_map, ok_or, unwrap_or, Result, Ok, Err, if◌then◌else◌}
 use Rattle.std.specs.List.{list_any}
 use Rattle.std.specs.Result.{result_err, result_unwrap_or}
@@ -11,14 +11,14 @@ use Rattle.graph_model.specs.declared.cell.Kind.{Kind}
 use Rattle.graph_model.specs.declared.cell.Kind.TheVariants as kind
 use Rattle.graph_model.specs.declared.cell.Cells.{Cells}
 use Rattle.graph_model.specs.declared.cell.Cells.TheVariants as cells
-use Rattle.graph_model.specs.GraphData.{GraphData, node}
+use Rattle.graph_model.specs.GraphData.{GraphData, node, with_edges}
 use Rattle.graph_loader.specs.declared.fault.DataFile.{DataFile}
 use Rattle.graph_loader.specs.declared.fault.DataFile.TheVariants as file
 use Rattle.graph_loader.specs.declared.fault.DataKind.{DataKind}
 use Rattle.graph_loader.specs.declared.fault.DataKind.TheVariants as wrong
 use Rattle.graph_loader.specs.declared.fault.DataFault.{DataFault}
 use Rattle.graph_loader.specs.declared.fault.Blame.{Blame}
-use Rattle.graph_loader.specs.Spelling.{id_spelled, int_spelled, bool_spelled, column_spelled}
+use Rattle.graph_loader.specs.Spelling.{id_spelled, int_spelled, bool_spelled, colon, column_spelled}
 
 -- ---- records
 
@@ -105,6 +105,7 @@ columns_after column (word ∷ words) (field ∷ fields) = if bytes_eq field wor
 abbrev pub first_words : DataFile → List (List ℕ)
 first_words file.Nodes = codes "id" ∷ []
 first_words file.Edges = codes "src" ∷ codes "dst" ∷ []
+first_words (file.Insert statement) = codes "src" ∷ codes "dst" ∷ []
 
 -- ---- cells
 
@@ -192,10 +193,10 @@ ends_of_row ids row = (result_unwrap_or (end_in ids (field_of row 0)) (node 0), 
 abbrev pub end_fault : List ℕ → Row → ℕ → Option Blame
 end_fault ids row place = option_map (blame (place + 1)) (result_err (end_in ids (field_of row place)))
 
--- the first fault of a record that comes after these edges
-abbrev pub edge_fault : List Kind → List ℕ → List (NodeNo × NodeNo) → Row → Option Blame
-edge_fault kinds ids earlier row =
-    if nat_lt (length earlier) 4_000_000
+-- the first fault of a record that comes after so many edges of other files and after these of its own
+abbrev pub edge_fault : ℕ → List Kind → List ℕ → List (NodeNo × NodeNo) → Row → Option Blame
+edge_fault before kinds ids earlier row =
+    if nat_lt (before + length earlier) 4_000_000
     then unless_wide row (length kinds + 2) (earlier_of (end_fault ids row 0) (earlier_of (end_fault ids row 1) (cells_fault row 2 kinds)))
     else Some (blame 0 wrong.TooManyEdges)
 
@@ -212,9 +213,13 @@ table columns rows = record { columns = columns; rows = rows }
 abbrev pub kinds_of : List Column → List Kind
 kinds_of columns = map (λ c. c.kind) columns
 
+-- the fault of a file without a record
+abbrev pub no_header : DataFile → DataFault
+no_header file = fault_in file 1 (blame 0 wrong.NoHeader)
+
 -- the table of these records: the first is the header, and the others are judged under its columns
 abbrev pub table_in : DataFile → (List Kind → List Row → Option DataFault) → List Row → Result Table DataFault
-table_in file fault [] = Err (fault_in file 1 (blame 0 wrong.NoHeader))
+table_in file fault [] = Err (no_header file)
 table_in file fault (header ∷ rows) =
     result_and_then (λ columns. unless_error (fault (kinds_of columns) rows) (table columns rows))
     (result_map_err (fault_in file 1) (columns_after 1 (first_words file) header))
@@ -228,7 +233,7 @@ nodes_table bytes = table_in file.Nodes (λ kinds. rows_fault file.Nodes (node_f
 
 -- the table of an edges file, where the nodes have these ids
 abbrev pub edges_table : List ℕ → List ℕ → Result Table DataFault
-edges_table ids bytes = table_in file.Edges (λ kinds. rows_fault file.Edges (edge_fault kinds ids) (ends_of_row ids) []) (records_of bytes)
+edges_table ids bytes = table_in file.Edges (λ kinds. rows_fault file.Edges (edge_fault 0 kinds ids) (ends_of_row ids) []) (records_of bytes)
 
 -- the graph that a table of nodes and a table of the edges between them spell
 abbrev pub graph_with : Table → Table → GraphData
@@ -249,3 +254,44 @@ graph_over edges nodes = result_map (graph_with nodes) (edges_table (ids_of node
 -- edges file
 abbrev pub graph_of : List ℕ → List ℕ → Result GraphData DataFault
 graph_of nodes edges = result_and_then (graph_over edges) (nodes_table nodes)
+
+-- ---- a further file of edges
+
+-- the word of a kind in a header
+abbrev pub kind_word : Kind → List ℕ
+kind_word kind.Int = codes "int"
+kind_word kind.Str = codes "str"
+kind_word kind.Bool = codes "bool"
+
+-- the field of a column in a header: name, colon, kind
+abbrev pub column_word : Column → List ℕ
+column_word c = c.name ++ colon ∷ kind_word c.kind
+
+-- the header that a further file of edges has, where those that are there have these columns
+abbrev pub insert_words : List Column → List (List ℕ)
+insert_words columns = codes "src" ∷ codes "dst" ∷ map column_word columns
+
+-- the first field, from this column on, that isn't the word at its place, or is missing, or is one too many
+abbrev pub header_fault : ℕ → List (List ℕ) → Row → Option Blame
+header_fault column [] [] = None
+header_fault column [] (field ∷ fields) = Some (blame column wrong.BadHeader)
+header_fault column (word ∷ words) [] = Some (blame column wrong.BadHeader)
+header_fault column (word ∷ words) (field ∷ fields) = if bytes_eq field word then header_fault (column + 1) words fields else Some (blame column wrong.BadHeader)
+
+-- the records under the header of the file of edges that this statement names, or their first fault: they are judged under the
+-- columns of the edges that are there, and counted behind these
+abbrev pub insert_rows : ℕ → GraphData → List Row → Result (List Row) DataFault
+insert_rows statement g [] = Err (no_header (file.Insert statement))
+insert_rows statement g (header ∷ rows) =
+    unless_error
+    (earlier_of (option_map (fault_in (file.Insert statement) 1) (header_fault 1 (insert_words g.edge_columns) header))
+    (rows_fault (file.Insert statement) (edge_fault (length g.ends) (kinds_of g.edge_columns) g.ids) (ends_of_row g.ids) [] rows))
+    rows
+
+-- the graph with the edges of these records behind its own
+abbrev pub with_rows : GraphData → List Row → GraphData
+with_rows g rows = with_edges g (map (ends_of_row g.ids) rows) (cells_of rows 2 (kinds_of g.edge_columns))
+
+-- the graph with the edges of the file that this statement names behind its own, or the first fault of that file
+abbrev pub extended : ℕ → List ℕ → GraphData → Result GraphData DataFault
+extended statement bytes g = result_map (with_rows g) (insert_rows statement g (records_of bytes))

@@ -3,3 +3,10 @@ pub mod DataFiles
 pub mod Answers
 pub mod RowsLeft
 pub mod LoadSteps
+pub mod CellLaws
+pub mod PropertyLaws
+pub mod RecordLaws
+pub mod ColumnLaws
+pub mod GraphLaws
+pub mod LoadLaws
+pub mod Laws

@@ -12,10 +12,11 @@ use Rattle.graph_loader.specs.declared.fault.DataKind.{DataKind}
 use Rattle.graph_loader.specs.declared.fault.DataKind.TheVariants as wrong
 use Rattle.graph_loader.specs.declared.fault.Blame.{Blame}
 use Rattle.graph_loader.specs.declared.fault.DataFault.{DataFault}
-use Rattle.graph_loader.specs.declared.fault.DataFile.TheVariants as file
-use Rattle.graph_model.specs.GraphData.{node}
+use Rattle.graph_loader.specs.declared.fault.DataFile.{DataFile}
+use Rattle.graph_loader.specs.declared.edges.EdgeSource.{EdgeSource}
+use Rattle.graph_model.specs.GraphData.{GraphData, node}
 use Rattle.graph_loader.specs.Spelling.{id_spelled}
-use Rattle.graph_loader.specs.DataFiles.{Row, blame, bool_in, cells_from, cells_of, earlier_of, edge_fault, edges_table, end_named, ends_of_row, fault_in, field_of, ids_of, int_in, kinds_of, nodes_table, table}
+use Rattle.graph_loader.specs.DataFiles.{Row, blame, bool_in, cells_from, cells_of, earlier_of, edge_fault, edges_table, end_named, ends_of_row, fault_in, field_of, ids_of, insert_rows, int_in, kinds_of, nodes_table, records_of, rows_fault, table}
 
 -- ---- the header
 
@@ -79,19 +80,23 @@ pair_fault ids p =
 abbrev pub pair_ends : List ℕ → ℕ × ℕ → NodeNo × NodeNo
 pair_ends ids p = (result_unwrap_or (end_named ids (Some p.0)) (node 0), result_unwrap_or (end_named ids (Some p.1)) (node 0))
 
--- the first fault of the ends that have these ids, of edges that come after so many others
-abbrev pub pairs_fault : List ℕ → ℕ → List (ℕ × ℕ) → Option DataFault
-pairs_fault ids count [] = None
-pairs_fault ids count (p ∷ pairs) = earlier_of (option_map (fault_in file.Edges (count + 2)) (pair_fault ids p)) (pairs_fault ids (count + 1) pairs)
+-- the first fault of the ends that have these ids, of edges that come after so many others of the file
+abbrev pub pairs_fault : DataFile → List ℕ → ℕ → List (ℕ × ℕ) → Option DataFault
+pairs_fault of ids count [] = None
+pairs_fault of ids count (p ∷ pairs) = earlier_of (option_map (fault_in of (count + 2)) (pair_fault ids p)) (pairs_fault of ids (count + 1) pairs)
 
 -- these ends, and behind them those that have these ids
 abbrev pub ends_so_far : List ℕ → List (NodeNo × NodeNo) → List (ℕ × ℕ) → List (NodeNo × NodeNo)
 ends_so_far ids ends pairs = ends ++ map (pair_ends ids) pairs
 
 -- the first fault of the edges whose ends are known by their ids alone, and of the record behind them
-abbrev pub fault_by_row : List Kind → List ℕ → List (NodeNo × NodeNo) → List (ℕ × ℕ) → Row → Option DataFault
-fault_by_row kinds ids ends pairs row =
-    earlier_of (pairs_fault ids (length ends) pairs) (option_map (fault_in file.Edges (length ends + length pairs + 2)) (edge_fault kinds ids (ends_so_far ids ends pairs) row))
+abbrev pub fault_by_row : EdgeSource → List Kind → List ℕ → List (NodeNo × NodeNo) → List (ℕ × ℕ) → Row → Option DataFault
+fault_by_row of kinds ids ends pairs row =
+    earlier_of (pairs_fault of.file ids (length ends) pairs) (option_map (fault_in of.file (length ends + length pairs + 2)) (edge_fault of.before kinds ids (ends_so_far ids ends pairs) row))
+
+-- the first fault of all these records
+abbrev pub source_fault : EdgeSource → List Kind → List ℕ → List Row → Option DataFault
+source_fault of kinds ids rows = rows_fault of.file (edge_fault of.before kinds ids) (ends_of_row ids) [] rows
 
 -- ---- files
 
@@ -108,3 +113,10 @@ pub record SpellsEdges (keys bytes : List ℕ) (pairs : List (NodeNo × NodeNo))
   pub file : edges_table keys bytes ≡ Ok (table columns rows)
   pub ends : pairs ≡ map (ends_of_row keys) rows
   pub cells : lists ≡ cells_of rows 2 (kinds_of columns)
+
+-- what the file of edges that a statement names adds to a graph: pairs of ends and a list of cells for each column
+pub record SpellsMore (statement : ℕ) (bytes : List ℕ) (g : GraphData) (pairs : List (NodeNo × NodeNo)) (lists : List Cells) : Type 0 where
+  pub rows : List Row
+  pub file : insert_rows statement g (records_of bytes) ≡ Ok rows
+  pub ends : pairs ≡ map (ends_of_row g.ids) rows
+  pub cells : lists ≡ cells_of rows 2 (kinds_of g.edge_columns)

@@ -7,13 +7,15 @@ use std::alloc::AllocError;
 use surge_outside::NoMemory;
 use thiserror::Error;
 
-/// One of the two files that a graph is loaded from.
+/// One of the files that a graph is loaded from.
 #[derive(Clone, Copy, Debug, PartialEq, Eq)]
 pub enum DataFile {
     /// The file that lists the nodes by their ids.
     Nodes,
     /// The file that lists the edges between them.
     Edges,
+    /// A further file of edges, which the statement with this number names.
+    Insert(u32),
 }
 
 /// What is wrong in a data file.
@@ -41,7 +43,8 @@ pub enum DataKind {
     TooManyNodes,
     /// There are more than 4,000,000 edges.
     TooManyEdges,
-    /// The file has more bytes than its reader takes. [`load`](crate::load), which is given the bytes, never says so.
+    /// The file has more bytes than its reader takes. [`load`](crate::load) and [`extend`](crate::extend), which are given
+    /// the bytes, never say so.
     TooLarge,
 }
 
@@ -80,10 +83,10 @@ pub struct DataFault {
     pub kind: DataKind,
 }
 
-/// Why no graph was loaded.
+/// Why no graph was loaded, or no edges were added to one.
 #[derive(Clone, Copy, Debug, PartialEq, Eq, Error)]
 pub enum LoadFault {
-    /// The files spell no graph, and this is their first fault.
+    /// The files spell no graph, or none with more edges, and this is their first fault.
     #[error("a data file isn't of the form that it must have")]
     Fault(DataFault),
     /// A request for memory was refused.

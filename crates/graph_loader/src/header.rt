@@ -1,10 +1,10 @@
 //! The header of a data file.
 
-ghost use Rattle.std.specs.Prelude.{◌≡◌, ◌+◌, ◌<◌, ◌≤◌, ◌^◌, [], drop, length, option_map, Result, Ok, Err};
+ghost use Rattle.std.specs.Prelude.{◌≡◌, ◌+◌, ◌<◌, ◌≤◌, ◌^◌, [], drop, length, option_map, string_bytes, IfOk, Result, Ok, Err};
 ghost use Rattle.std.specs.List.{list_all};
 ghost use Rattle.csv.specs.Records.{fields_of};
 ghost use Rattle.graph_loader.specs.Answers.{Answers, Tells};
-ghost use Rattle.graph_loader.specs.DataFiles.{blame, columns_after, first_words, has_name, properties_from, property_in, result_map, result_map_err};
+ghost use Rattle.graph_loader.specs.DataFiles.{blame, column_word, columns_after, first_words, has_name, header_fault, insert_words, kind_word, properties_from, property_in, result_map, result_map_err};
 ghost use Rattle.graph_loader.specs.declared.fault.DataFile.TheVariants as file;
 ghost use Rattle.graph_loader.specs.LoadSteps.{column_parts, word_fault};
 ghost use Rattle.graph_loader.specs.Spelling.{column_spelled, kind_spelled, is_property, is_printing};
@@ -14,7 +14,7 @@ use crate::fields::field;
 use csv::ByteRecord;
 use graph_model::{Column, Kind};
 use std::alloc::Global;
-use surge_outside::{List, Text};
+use surge_outside::{List, NoMemory, Text};
 
 /// A file has at most so many properties.
 const MOST_PROPERTIES: usize = 16;
@@ -36,9 +36,60 @@ pub(crate) fn edge_columns(alloc: Global, row: &ByteRecord) -> Result<List<Colum
     properties(alloc, row, 2)
 }
 
+/// Refuses a header that isn't `src`, `dst` and then these columns, in their order.
+pub(crate) fn expect_header(
+    alloc: Global,
+    row: &ByteRecord,
+    columns: &[Column],
+) -> Result<(), Refusal>
+    requires { length columns.now ≤ 16 }
+    ensures { Tells (header_fault 1 (insert_words columns.now) (fields_of row.now)) result }
+{
+    expect_word(row, 0, "src")?;
+    expect_word(row, 1, "dst")?;
+    for place in 0..columns.len() {
+        let word = header_word(alloc, &columns[place])?;
+        expect_word(row, place + 2, word.as_str())?;
+    }
+    expect_end(row, columns.len() + 2)
+}
+
+/// The field of a column in a header.
+fn header_word(alloc: Global, column: &Column) -> Result<String, NoMemory>
+    ensures { IfOk result (λ word. string_bytes word ≡ column_word column.now) }
+{
+    let mut word = String::from_str(alloc, column.name.as_str())?;
+    word.push_str(":")?;
+    word.push_str(word_of(column.kind))?;
+    Ok(word)
+}
+
+/// The word of a kind.
+fn word_of(kind: Kind) -> &'static str
+    ensures { result.now ≡ kind_word kind }
+{
+    match kind {
+        Kind::Int => "int",
+        Kind::Str => "str",
+        Kind::Bool => "bool",
+    }
+}
+
+/// Refuses a header that has a field at this place.
+fn expect_end(row: &ByteRecord, place: usize) -> Result<(), Refusal>
+    requires { place ≤ 18 }
+    ensures { Tells (header_fault (place + 1) [] (drop place (fields_of row.now))) result }
+{
+    if place < row.len() {
+        Err(Refusal::blame(place as u32 + 1, DataKind::BadHeader))
+    } else {
+        Ok(())
+    }
+}
+
 /// Refuses a header that has another field than this word at this place, or none.
 fn expect_word(row: &ByteRecord, place: usize, word: &str) -> Result<(), Refusal>
-    requires { place < 2 }
+    requires { place < 18 }
     ensures { Tells (word_fault (fields_of row.now) place word.now) result }
 {
     if place < row.len() && field(row, place) == word.as_bytes() {

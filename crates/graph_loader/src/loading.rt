@@ -6,7 +6,7 @@ ghost use Rattle.graph_loader.specs.Answers.{IfFault};
 ghost use Rattle.graph_loader.specs.DataFiles.{graph_of};
 ghost use Rattle.graph_loader.specs.declared.fault.DataKind.TheVariants as wrong;
 
-use crate::edges::{EdgeTable, edge_table};
+use crate::edges::{EdgeList, EdgeTable, edge_table};
 use crate::fault::LoadFault;
 use crate::nodes::{NodeTable, node_table};
 use graph_model::Graph;
@@ -46,9 +46,8 @@ pub fn load(alloc: Global, nodes: &[u8], edges: &[u8]) -> Result<Graph, LoadFaul
         cells: node_cells,
     } = node_table(alloc, nodes)?;
     let EdgeTable {
-        ends,
+        edges: EdgeList { ends, cells },
         columns,
-        cells,
     } = edge_table(alloc, &ids, edges)?;
     let ids = listed(alloc, ids.as_slice())?;
     Ok(Graph::new(alloc, ids, node_columns, node_cells, ends, columns, cells)?)

@@ -38,9 +38,7 @@ pub(crate) fn node_table(alloc: Global, bytes: &[u8]) -> Result<NodeTable, LoadF
     ensures fault { IfErr result (λ e. IfFault e (λ f. nodes_table bytes.now ≡ Err f)) }
 {
     let mut rows = Rows::new(alloc, bytes);
-    if !rows.advance()? {
-        return Err(Refusal::blame(0, DataKind::NoHeader).of_record(DataFile::Nodes, 1));
-    }
+    rows.read_header(DataFile::Nodes)?;
     match node_columns(alloc, rows.row()) {
         Ok(columns) => nodes_under(alloc, columns, &mut rows),
         Err(refusal) => Err(refusal.of_record(DataFile::Nodes, 1)),

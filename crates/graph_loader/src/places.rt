@@ -14,6 +14,15 @@ use surge_outside::NoMemory;
 /// What a slot holds where no node has its id.
 const NO_PLACE: u32 = u32::MAX;
 
+/// The nodes by their ids.
+#[derive(Clone, Copy)]
+pub(crate) struct NodeIndex<'a> {
+    /// The id of each node, in the order of their numbers.
+    pub(crate) ids: &'a IndexSet<u64>,
+    /// For each id below twice their number, its place among these ids.
+    pub(crate) places: &'a [u32],
+}
+
 /// For each id below twice their number, its place among these ids.
 pub(crate) fn places_of(alloc: Global, ids: &IndexSet<u64>) -> Result<Vec<u32>, NoMemory>
     requires { length ids.now.keys ≤ 1_000_000 }
@@ -36,17 +45,17 @@ fn set_place(places: &mut Vec<u32>, id: u64, place: u32)
     }
 }
 
-/// The place of an id among these, by their table where it is small.
+/// The place of the node that has this id, by the table of places where the id is small.
 #[inline(always)]
-pub(crate) fn place_of(ids: &IndexSet<u64>, places: &[u32], id: u64) -> Option<u32>
-    requires few { length ids.now.keys ≤ 1_000_000 }
-    requires table { IsTableOf ids.now.keys places.now }
-    ensures { result ≡ position (nat_eq id) ids.now.keys }
+pub(crate) fn place_of(nodes: &NodeIndex<'_>, id: u64) -> Option<u32>
+    requires few { length nodes.now.ids.now.keys ≤ 1_000_000 }
+    requires table { IsTableOf nodes.now.ids.now.keys nodes.now.places.now }
+    ensures { result ≡ position (nat_eq id) nodes.now.ids.now.keys }
 {
-    if id < places.len() as u64 {
-        place_from(places[id as usize])
+    if id < nodes.places.len() as u64 {
+        place_from(nodes.places[id as usize])
     } else {
-        match ids.get_index_of(&id) {
+        match nodes.ids.get_index_of(&id) {
             Some(place) => Some(place as u32),
             None => None,
         }

@@ -1,11 +1,13 @@
 //! The records of a data file, one after the other.
 
-ghost use Rattle.std.specs.Prelude.{◌≡◌, IfOk, OnOk};
+ghost use Rattle.std.specs.Prelude.{◌≡◌, ◌∷◌, [], IfErr, IfOk, OnOk};
 ghost use Rattle.csv.specs.Reading.{error_kind};
 ghost use Rattle.csv.specs.Records.{fields_of};
-ghost use Rattle.graph_loader.specs.DataFiles.{records_of};
+ghost use Rattle.graph_loader.specs.Answers.{IfFault};
+ghost use Rattle.graph_loader.specs.DataFiles.{no_header, records_of};
 ghost use Rattle.graph_loader.specs.RowsLeft.{IsOfSource, IsReady, given, left_of};
 
+use crate::fault::{DataFile, DataKind, LoadFault, Refusal};
 use csv::{ByteRecord, Error, ErrorKind, Reader, ReaderBuilder, Trim};
 use std::alloc::Global;
 use surge_outside::NoMemory;
@@ -43,6 +45,20 @@ impl<'a> Rows<'a> {
         match self.reader.read_byte_record(&mut self.row) {
             Ok(found) => Ok(found),
             Err(error) => Err(refused(&error)),
+        }
+    }
+
+    /// Reads the first record of this file, its header. That there is none is a fault.
+    pub(crate) fn read_header(&mut self, file: DataFile) -> Result<(), LoadFault>
+        requires { IsReady self.old.reader }
+        ensures ready { OnOk result (IsReady self.new.reader) }
+        ensures row { OnOk result (left_of self.old.reader ≡ fields_of self.new.row ∷ left_of self.new.reader) }
+        ensures fault { IfErr result (λ e. IfFault e (λ f. (left_of self.old.reader ≡ []) × (f ≡ no_header file))) }
+    {
+        if self.advance()? {
+            Ok(())
+        } else {
+            Err(Refusal::blame(0, DataKind::NoHeader).of_record(file, 1))
         }
     }
 

@@ -3,7 +3,7 @@ use Rattle.std.proofs.lemmas.Result.{err_from_is_err_and}
 use Rattle.csv.specs.Records.{fields_of}
 use Rattle.graph_model.specs.GraphData.{kind_of}
 use Rattle.graph_loader.specs.DataFiles.{blame, cell_fault, cells_fault, earlier_of}
-use Rattle.graph_loader.proofs.CellFacts.{mixed, mixed-all, cells-at, cells-set, cells-go-on, told-stop}
+use Rattle.graph_loader.specs.CellLaws.{mixed, mixed-all, cells-at, cells-set, cells-go-on, told-stop}
 use Rattle.graph_loader.proofs.cells.add_cells.Goals as goal
 
 pub returns-in_err-add_cell-clause-told : goal.returns-in_err-add_cell-clause-told

@@ -2,7 +2,7 @@ use Rattle.std.proofs.Common.{◌≡◌, ◌+◌, map, drop}
 use Rattle.csv.specs.Records.{fields_of}
 use Rattle.graph_model.specs.GraphData.{kind_of}
 use Rattle.graph_loader.specs.DataFiles.{cells_fault}
-use Rattle.graph_loader.proofs.CellFacts.{mixed}
+use Rattle.graph_loader.specs.CellLaws.{mixed}
 use Rattle.graph_loader.proofs.cells.add_cells.Given as goal
 
 abbrev pub invariant-loop-place : goal.invariant-loop-place

@@ -4,5 +4,5 @@ use Rattle.graph_loader.proofs.ends.link.Given as goal
 
 abbrev pub invariant-loop-pair : goal.invariant-loop-pair
 invariant-loop-pair l =
-    (l.ends ≡ l.fn.ends ++ map (pair_ends l.ids.keys) (take l.pair-index l.fn.waiting))
-    × (pairs_fault l.ids.keys (length l.fn.ends) l.fn.waiting ≡ pairs_fault l.ids.keys (length l.ends) (drop l.pair-index l.fn.waiting))
+    (l.ends ≡ l.fn.ends ++ map (pair_ends l.nodes.ids.now.keys) (take l.pair-index l.fn.waiting))
+    × (pairs_fault l.file l.nodes.ids.now.keys (length l.fn.ends) l.fn.waiting ≡ pairs_fault l.file l.nodes.ids.now.keys (length l.ends) (drop l.pair-index l.fn.waiting))

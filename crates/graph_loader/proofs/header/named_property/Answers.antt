@@ -4,7 +4,7 @@ use Rattle.std.proofs.lemmas.Bool.Decides.{nat_tests}
 use Rattle.graph_loader.specs.DataFiles.{has_name, most_properties, new_column}
 use Rattle.graph_loader.specs.LoadSteps.{column_parts}
 use Rattle.graph_loader.specs.Spelling.{column_spelled}
-use Rattle.graph_loader.proofs.PropertyFacts.{property-of-text, property-of-bytes}
+use Rattle.graph_loader.specs.PropertyLaws.{property-of-text, property-of-bytes}
 use Rattle.graph_loader.proofs.TextFacts.{no-text}
 use Rattle.graph_loader.proofs.header.named_property.Goals as goal
 

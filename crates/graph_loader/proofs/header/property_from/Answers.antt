@@ -1,7 +1,7 @@
 use Rattle.std.proofs.Common.{◌≡◌, ◌∙◌, sym, refl, Some, None, true, false}
 use Rattle.graph_loader.specs.Spelling.{cut_at_last_colon, kind_spelled, is_property}
 use Rattle.graph_loader.proofs.HeaderFacts.{none-is-none, split-is-cut}
-use Rattle.graph_loader.proofs.PropertyFacts.{column-of}
+use Rattle.graph_loader.specs.PropertyLaws.{column-of}
 use Rattle.graph_loader.proofs.header.property_from.Goals as goal
 
 pub returns-in_err-name : goal.returns-in_err-name

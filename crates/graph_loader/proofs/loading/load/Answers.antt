@@ -27,5 +27,5 @@ new-requires c =
     let t = c.in_ok-ids.field-0 in
     let u = c.in_ok-ends.field-0 in
     let listed : c.in_ok-ids-2.ids ≡ t.ids.keys = c.in_ok-ids-2.ensures ∙ c.as_slice.ensures.keys in
-    subst (λ i. IsGraphData (graph_data i t.columns t.cells u.ends u.columns u.cells)) (sym listed)
-    (is-graph c.args.nodes.now t.ids.keys t.columns t.cells c.in_ok-ids.ensures.ok c.args.edges.now u.ends u.columns u.cells c.in_ok-ends.ensures.ok)
+    subst (λ i. IsGraphData (graph_data i t.columns t.cells u.edges.ends u.columns u.edges.cells)) (sym listed)
+    (is-graph c.args.nodes.now t.ids.keys t.columns t.cells c.in_ok-ids.ensures.ok c.args.edges.now u.edges.ends u.columns u.edges.cells c.in_ok-ends.ensures.ok)

@@ -7,8 +7,8 @@ use Rattle.graph_loader.specs.Answers.{fault_at}
 use Rattle.graph_loader.specs.DataFiles.{id_of_row, kinds_of, node_fault}
 use Rattle.graph_loader.specs.LoadSteps.{no_cells}
 use Rattle.graph_loader.specs.RowsLeft.{left_of, given}
-use Rattle.graph_loader.proofs.CellFacts.{no-cells}
-use Rattle.graph_loader.proofs.RecordFacts.{few-nodes, kinds-so-far, more-so-far, nothing-yet, refused-at, width-so-far}
+use Rattle.graph_loader.specs.CellLaws.{no-cells}
+use Rattle.graph_loader.specs.RecordLaws.{few-nodes, kinds-so-far, more-so-far, nothing-yet, refused-at, width-so-far}
 use Rattle.graph_loader.proofs.nodes.nodes_under.Goals as goal
 
 pub loop-cells-init : goal.loop-cells-init

@@ -2,7 +2,7 @@ use Rattle.std.proofs.Common.{◌≤◌, length}
 use Rattle.graph_loader.specs.declared.fault.DataFile.TheVariants as file
 use Rattle.graph_loader.specs.DataFiles.{id_of_row, kinds_of, node_fault}
 use Rattle.graph_loader.specs.RowsLeft.{IsReady, left_of}
-use Rattle.graph_loader.proofs.RecordFacts.{SoFar}
+use Rattle.graph_loader.specs.RecordLaws.{SoFar}
 use Rattle.graph_loader.proofs.nodes.nodes_under.Given as goal
 
 abbrev pub invariant-loop-cells : goal.invariant-loop-cells

@@ -1,4 +1,4 @@
--- What two data files spell is a graph.
+-- What two data files spell is a graph, and what a further file of edges spells can stand behind its edges.
 use Rattle.std.proofs.Common.{◌≡◌, ◌∙◌, refl, ap, ℕ, zero, suc, ◌+◌, ◌<◌, ◌≤◌, ◌^◌, Bool, true, false, ◌&&◌, ◌==◌, List, [], ◌∷◌, ◌++◌, length, map, Option, Some, None, option_map, Err, if◌then◌else◌, arith}
 use Rattle.std.specs.Prelude.{ℤ, pos, neg_ℤ, nat_eq, nat_lt, nat_le, ok_or, unwrap_or, All}
 use Rattle.std.specs.List.{list_any, list_all, position_or_len}
@@ -6,7 +6,7 @@ use Rattle.std.specs.Char.{is_ascii_digit}
 use Rattle.std.specs.Result.{result_err, result_unwrap_or}
 use Rattle.std.specs.Str.{is_utf8}
 use Rattle.std.proofs.lemmas.List.{length-map, length-append}
-use Rattle.std.proofs.lemmas.List.Elements.{All-append, All-map}
+use Rattle.std.proofs.lemmas.List.Elements.{All-map}
 use Rattle.std.proofs.lemmas.Bool.Decides.{nat_tests}
 use Rattle.graph_model.specs.declared.number.NodeNo.{NodeNo}
 use Rattle.graph_model.specs.declared.cell.Column.{Column}
@@ -17,23 +17,13 @@ use Rattle.graph_model.specs.GraphData.{AreDistinct, EndsAmong, FitColumns, HasN
 use Rattle.graph_loader.specs.declared.fault.Blame.{Blame}
 use Rattle.graph_loader.specs.declared.fault.DataKind.{DataKind}
 use Rattle.graph_loader.specs.declared.fault.DataKind.TheVariants as wrong
+use Rattle.graph_loader.specs.declared.fault.DataFile.{DataFile}
 use Rattle.graph_loader.specs.declared.fault.DataFile.TheVariants as file
 use Rattle.graph_loader.specs.DataFiles.{Row, blame, cells_from, cells_of, earlier_of, edge_fault, end_in, end_named, ends_of_row, field_of, graph_with, id_fault, id_of_row, ids_of, int_in, kinds_of, node_fault, rows_fault, table}
 use Rattle.graph_loader.specs.Spelling.{decimal, id_spelled, int_spelled, is_number, minus_sign, signed_spelled}
-use Rattle.graph_loader.proofs.CellFacts.{kinds-of-cells}
-use Rattle.graph_loader.proofs.ColumnFacts.{AreColumns, distinct-push, new-id}
-use Rattle.graph_loader.proofs.RecordFacts.{few-nodes, few-edges, rows-keep}
-
--- ---- lists
-
-all-push : {A : Type 0} (P : A → Type 0) (xs : List A) (x : A) → All P xs → P x → All P (xs ++ x ∷ [])
-all-push P xs x h p = All-append P xs (x ∷ []) h (one x p) where
-  one : (x : _) → P x → All P (x ∷ [])
-  one x p zero d lt = p
-  one x p (suc k) d lt = absurd (omega arith)
-
-all-none : {A : Type 0} (P : A → Type 0) → All P []
-all-none P k d lt = absurd (omega arith)
+use Rattle.graph_loader.specs.CellLaws.{kinds-of-cells}
+use Rattle.graph_loader.specs.ColumnLaws.{AreColumns, all-none, all-push, distinct-push, new-id}
+use Rattle.graph_loader.specs.RecordLaws.{few-nodes, few-edges, rows-keep}
 
 -- ---- what a record without a fault gives
 
@@ -111,15 +101,15 @@ end-fits ids field e = spelled (id_spelled field) e where
   spelled None e = absurd (cc)
   spelled (Some id) e = found id (nat_lt (position_or_len (nat_eq id) ids) (length ids)) refl e
 
-pub record AreEnds (nodes : ℕ) (ends : List (NodeNo × NodeNo)) : Type 0 where
-  pub few : length ends ≤ 4_000_000
+pub record AreEnds (before nodes : ℕ) (ends : List (NodeNo × NodeNo)) : Type 0 where
+  pub few : before + length ends ≤ 4_000_000
   pub among : All (EndsAmong nodes) ends
 
-ends-step : (ids : List ℕ) (kinds : List Kind) (earlier : List (NodeNo × NodeNo)) (row : Row) → AreEnds (length ids) earlier → edge_fault kinds ids earlier row ≡ None
-    → AreEnds (length ids) (earlier ++ ends_of_row ids row ∷ [])
-ends-step ids kinds earlier row h e =
-    let count = few-edges kinds ids earlier row e in
-    let judged = checked (nat_lt (length earlier) 4_000_000) _ _ e in
+ends-step : (before : ℕ) (ids : List ℕ) (kinds : List Kind) (earlier : List (NodeNo × NodeNo)) (row : Row) → AreEnds before (length ids) earlier → edge_fault before kinds ids earlier row ≡ None
+    → AreEnds before (length ids) (earlier ++ ends_of_row ids row ∷ [])
+ends-step before ids kinds earlier row h e =
+    let count = few-edges before kinds ids earlier row e in
+    let judged = checked (nat_lt (before + length earlier) 4_000_000) _ _ e in
     let fields = checked (length row == length kinds + 2) _ _ judged in
     let first = first-none _ _ fields in
     let second = first-none _ _ first.1 in
@@ -128,10 +118,11 @@ ends-step ids kinds earlier row h e =
       among = all-push (EndsAmong (length ids)) earlier (ends_of_row ids row) h.among (end-fits ids (field_of row 0) (unblamed 1 _ first.0), end-fits ids (field_of row 1) (unblamed 2 _ second.0));
     }
 
-pub ends-are : (ids : List ℕ) (kinds : List Kind) (rows : List Row) → rows_fault file.Edges (edge_fault kinds ids) (ends_of_row ids) [] rows ≡ None
-    → AreEnds (length ids) (map (ends_of_row ids) rows)
-ends-are ids kinds rows e =
-    rows-keep (NodeNo × NodeNo) file.Edges (ends_of_row ids) 2 (λ kinds. edge_fault kinds ids) kinds (AreEnds (length ids)) (ends-step ids kinds) rows []
+pub ends-are : (of : DataFile) (before : ℕ) (ids : List ℕ) (kinds : List Kind) (rows : List Row) → before ≤ 4_000_000
+    → rows_fault of (edge_fault before kinds ids) (ends_of_row ids) [] rows ≡ None
+    → AreEnds before (length ids) (map (ends_of_row ids) rows)
+ends-are of before ids kinds rows le e =
+    rows-keep (NodeNo × NodeNo) of (ends_of_row ids) 2 (λ kinds. edge_fault before kinds ids) kinds (AreEnds before (length ids)) (ends-step before ids kinds) rows []
     (record { few = omega arith; among = all-none (EndsAmong (length ids)) }) e
 
 -- ---- cells
@@ -194,7 +185,7 @@ numbers : (rows : List Row) (place : ℕ) (kinds : List Kind) → All HasNoLowes
 numbers rows place [] = all-none HasNoLowest
 numbers rows place (k ∷ kinds) = all-cons HasNoLowest _ _ (cells-fit k (map (λ row. field_of row place) rows)) (numbers rows (place + 1) kinds)
 
-columns-fit : (rows : List Row) (place count : ℕ) (columns : List Column) → count ≡ length rows → FitColumns count columns (cells_of rows place (kinds_of columns))
+pub columns-fit : (rows : List Row) (place count : ℕ) (columns : List Column) → count ≡ length rows → FitColumns count columns (cells_of rows place (kinds_of columns))
 columns-fit rows place count columns e = rw e (record {
   kinds = kinds-of-cells rows place (kinds_of columns);
   counts = counts rows place (kinds_of columns);
@@ -204,7 +195,7 @@ columns-fit rows place count columns e = rw e (record {
 -- ---- both files
 
 pub graph-fits : (node_rows edge_rows : List Row) (node_columns edge_columns : List Column) → AreColumns node_columns → AreColumns edge_columns
-    → AreIds (ids_of node_rows) → AreEnds (length (ids_of node_rows)) (map (ends_of_row (ids_of node_rows)) edge_rows)
+    → AreIds (ids_of node_rows) → AreEnds 0 (length (ids_of node_rows)) (map (ends_of_row (ids_of node_rows)) edge_rows)
     → IsGraphData (graph_with (table node_columns node_rows) (table edge_columns edge_rows))
 graph-fits node_rows edge_rows node_columns edge_columns nc ec i e = record {
   few_nodes = i.few;
@@ -213,7 +204,7 @@ graph-fits node_rows edge_rows node_columns edge_columns nc ec i e = record {
   few_node_columns = nc.0;
   node_names = nc.1;
   node_cells = columns-fit node_rows 1 (length (ids_of node_rows)) node_columns (length-map node_rows id_of_row);
-  few_edges = e.few;
+  few_edges = omega (arith, e.few);
   ends = e.among;
   few_edge_columns = ec.0;
   edge_names = ec.1;

@@ -1,16 +1,29 @@
 -- Lists whose values are distinct, and the columns of a header.
 use Rattle.std.proofs.Common.{◌≡◌, ◌∙◌, ◌⊎◌, inl, inr, sym, refl, ap, subst, ℕ, zero, suc, ◌+◌, ◌≤◌, Bool, true, false, ◌||◌, List, [], ◌∷◌, ◌++◌, length, map, Some, Ok, Err, if◌then◌else◌, arith}
-use Rattle.std.specs.Prelude.{nat_eq, slice_get}
+use Rattle.std.specs.Prelude.{nat_eq, slice_get, All}
 use Rattle.std.specs.List.{list_any}
 use Rattle.std.specs.Str.{bytes_eq}
 use Rattle.std.proofs.lemmas.List.{length-append, map-append}
+use Rattle.std.proofs.lemmas.List.Elements.{All-append}
 use Rattle.std.proofs.lemmas.Bool.Decides.{nat_tests}
 use Rattle.std.proofs.lemmas.Slice.Eq.{bytes_eq-Decides}
 use Rattle.graph_model.specs.declared.cell.Column.{Column}
 use Rattle.graph_model.specs.GraphData.{AreDistinct, names_of}
 use Rattle.graph_loader.specs.declared.fault.DataKind.TheVariants as wrong
 use Rattle.graph_loader.specs.DataFiles.{Row, blame, columns_after, has_name}
-use Rattle.graph_loader.proofs.PropertyFacts.{Named, properties-keep}
+use Rattle.graph_loader.specs.Spelling.{is_property}
+use Rattle.graph_loader.specs.PropertyLaws.{Named, properties-keep}
+
+-- ---- lists
+
+pub all-push : {A : Type 0} (P : A → Type 0) (xs : List A) (x : A) → All P xs → P x → All P (xs ++ x ∷ [])
+all-push P xs x h p = All-append P xs (x ∷ []) h (one x p) where
+  one : (x : _) → P x → All P (x ∷ [])
+  one x p zero d lt = p
+  one x p (suc k) d lt = absurd (omega arith)
+
+pub all-none : {A : Type 0} (P : A → Type 0) → All P []
+all-none P k d lt = absurd (omega arith)
 
 -- ---- lists whose values are distinct
 
@@ -61,17 +74,21 @@ new-name columns name none i e =
 
 -- ---- columns
 
+-- a property may have its name
+abbrev pub HasPropertyName : Column → Type 0
+HasPropertyName c = is_property c.name ≡ true
+
 abbrev pub AreColumns : List Column → Type 0
-AreColumns columns = (length columns ≤ 16) × AreDistinct (names_of columns)
+AreColumns columns = (length columns ≤ 16) × AreDistinct (names_of columns) × All HasPropertyName columns
 
 columns-step : (earlier : List Column) (c : Column) → AreColumns earlier → Named earlier c → AreColumns (earlier ++ c ∷ [])
 columns-step earlier c h n =
     let count = n.few in
     let names : names_of (earlier ++ c ∷ []) ≡ names_of earlier ++ c.name ∷ [] = map-append (λ (c : Column). c.name) earlier (c ∷ []) in
-    (omega (arith, length-append earlier (c ∷ [])), rw names (distinct-push (names_of earlier) c.name h.1 (new-name earlier c.name n.new)))
+    (omega (arith, length-append earlier (c ∷ [])), rw names (distinct-push (names_of earlier) c.name h.1 (new-name earlier c.name n.new)), all-push HasPropertyName earlier c h.2 n.name)
 
 pub columns-are : (words : List (List ℕ)) (fields : Row) (column : ℕ) (out : List Column) → columns_after column words fields ≡ Ok out → AreColumns out
-columns-are [] fields column out e = properties-keep AreColumns columns-step fields column [] out (omega arith, λ i j x a b. absurd (cc)) e
+columns-are [] fields column out e = properties-keep AreColumns columns-step fields column [] out (omega arith, λ i j x a b. absurd (cc), all-none HasPropertyName) e
 columns-are (word ∷ words) [] column out e = absurd (cc)
 columns-are (word ∷ words) (field ∷ fields) column out e = cases (bytes_eq field word) (columns-are words fields (column + 1) out) e where
   cases : (t : Bool) → (columns_after (column + 1) words fields ≡ Ok out → AreColumns out)

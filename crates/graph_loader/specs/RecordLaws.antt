@@ -16,7 +16,7 @@ use Rattle.graph_loader.specs.Answers.{IfBlame, IfFault, fault_at}
 use Rattle.graph_loader.specs.DataFiles.{Row, cells_of, earlier_of, edge_fault, fault_in, kinds_of, node_fault, rows_fault}
 use Rattle.graph_loader.specs.LoadSteps.{pushed}
 use Rattle.graph_loader.specs.RowsLeft.{given}
-use Rattle.graph_loader.proofs.CellFacts.{cells-more, kinds-of-cells}
+use Rattle.graph_loader.specs.CellLaws.{cells-more, kinds-of-cells}
 
 -- what a file's records give, seen from a place: the items and the cells of those before it
 pub record SoFar {A : Type 0} (file : DataFile) (item : Row → A) (first : ℕ) (judge : List Kind → List A → Row → Option Blame) (kinds : List Kind) (all left : List Row) (items : List A) (lists : List Cells) : Type 0 where
@@ -101,7 +101,7 @@ few-nodes kinds ids row e = below (counted (nat_lt (length ids) 1_000_000) _ _ e
   below : nat_lt (length ids) 1_000_000 ≡ true → length ids < 1_000_000
   below t = grind (arith, nat_tests)
 
-pub few-edges : (kinds : List Kind) (ids : List ℕ) (ends : List (NodeNo × NodeNo)) (row : Row) → edge_fault kinds ids ends row ≡ None → length ends < 4_000_000
-few-edges kinds ids ends row e = below (counted (nat_lt (length ends) 4_000_000) _ _ e).0 where
-  below : nat_lt (length ends) 4_000_000 ≡ true → length ends < 4_000_000
+pub few-edges : (before : ℕ) (kinds : List Kind) (ids : List ℕ) (ends : List (NodeNo × NodeNo)) (row : Row) → edge_fault before kinds ids ends row ≡ None → before + length ends < 4_000_000
+few-edges before kinds ids ends row e = below (counted (nat_lt (before + length ends) 4_000_000) _ _ e).0 where
+  below : nat_lt (before + length ends) 4_000_000 ≡ true → before + length ends < 4_000_000
   below t = grind (arith, nat_tests)

@@ -5,10 +5,11 @@ use Rattle.std.specs.Str.{IsUtf8, is_utf8}
 use Rattle.std.proofs.lemmas.Str.{is_utf8-from_IsUtf8}
 use Rattle.std.proofs.lemmas.Bool.Decides.{nat_tests}
 use Rattle.graph_model.specs.declared.cell.Column.{Column}
+use Rattle.graph_model.specs.declared.cell.Kind.{Kind}
 use Rattle.graph_loader.specs.declared.fault.DataKind.{DataKind}
 use Rattle.graph_loader.specs.declared.fault.DataKind.TheVariants as wrong
 use Rattle.graph_loader.specs.DataFiles.{Row, blame, has_name, most_properties, new_column, properties_from, property_in, result_and_then, result_map_err}
-use Rattle.graph_loader.specs.Spelling.{cut_at_last_colon, column_named, column_spelled, kind_spelled}
+use Rattle.graph_loader.specs.Spelling.{cut_at_last_colon, column_named, column_spelled, is_property, kind_spelled}
 
 -- ---- one property
 
@@ -24,10 +25,34 @@ pub property-of-bytes : (earlier : List Column) (field : List ℕ) → nat_le mo
     → property_in earlier field ≡ Err wrong.NotUtf8
 property-of-bytes earlier field few bytes = rw (few, bytes) refl
 
--- what holds where a property is named: there are few, and none has its name
+-- what holds where a property is named: there are few, none has its name, and it may have this name
 pub record Named (earlier : List Column) (c : Column) : Type 0 where
   pub few : length earlier < 16
   pub new : has_name earlier c.name ≡ false
+  pub name : is_property c.name ≡ true
+
+named-so : (name : List ℕ) (k : Kind) (c : Column) → column_named name k ≡ Some c → is_property c.name ≡ true
+named-so name k c e = cases (is_property name) refl e where
+  cases : (t : Bool) → is_property name ≡ t → (if t then Some (record { name = name; kind = k }) else None) ≡ Some c → is_property c.name ≡ true
+  cases true q e = let same : record { name = name; kind = k } ≡ c = cc in subst (λ (x : Column). is_property x.name ≡ true) same q
+  cases false q e = absurd (cc)
+
+spelled-so : (field : List ℕ) (c : Column) → column_spelled field ≡ Some c → is_property c.name ≡ true
+spelled-so field c e = cut (cut_at_last_colon field) e where
+  kinded : (name : List ℕ) (k : Option Kind) → option_and_then (column_named name) k ≡ Some c → is_property c.name ≡ true
+  kinded name None e = absurd (cc)
+  kinded name (Some k) e = named-so name k c e
+
+  cut : (o : Option (List ℕ × List ℕ)) → option_and_then (λ p. option_and_then (column_named p.0) (kind_spelled p.1)) o ≡ Some c → is_property c.name ≡ true
+  cut None e = absurd (cc)
+  cut (Some p) e = kinded p.0 (kind_spelled p.1) e
+
+column-is : (earlier : List Column) (o : Option Column) (c : Column) → new_column earlier o ≡ Ok c → o ≡ Some c
+column-is earlier None c e = absurd (cc)
+column-is earlier (Some x) c e = cases (has_name earlier x.name) e where
+  cases : (t : Bool) → ◌≡◌ {A = Result Column DataKind} (if t then Err wrong.BadHeader else Ok x) (Ok c) → Some x ≡ Some c
+  cases true e = absurd (cc)
+  cases false e = cc
 
 fresh : (earlier : List Column) (o : Option Column) (c : Column) → new_column earlier o ≡ Ok c → has_name earlier c.name ≡ false
 fresh earlier None c e = absurd (cc)
@@ -45,7 +70,7 @@ named earlier field c e = cases (nat_le most_properties (length earlier)) (is_ut
       → ◌≡◌ {A = Result Column DataKind} (if t then Err wrong.TooManyColumns else if not u then Err wrong.NotUtf8 else new_column earlier (column_spelled field)) (Ok c) → Named earlier c
   cases true u t e = absurd (cc)
   cases false false t e = absurd (cc)
-  cases false true t e = record { few = below t; new = fresh earlier (column_spelled field) c e }
+  cases false true t e = record { few = below t; new = fresh earlier (column_spelled field) c e; name = spelled-so field c (column-is earlier (column_spelled field) c e) }
 
 -- ---- the properties of a header
 
