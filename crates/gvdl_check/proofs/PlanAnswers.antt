@@ -9,7 +9,9 @@ use Rattle.gvdl_programs.specs.declared.refusal.Stop.TheVariants as stop
 use Rattle.gvdl_programs.specs.Judging.{Judged, ◌>>=◌, IfRefused}
 use Rattle.gvdl_check.specs.Faults.{at, stop_at, Agrees}
 use Rattle.gvdl_check.specs.Plans.{plan}
-use Rattle.gvdl_check.specs.Fits.{PlanFits}
+use Rattle.gvdl_check.specs.Fits.{PlanFits, HoldsNoLowest}
+use Rattle.gvdl_check.specs.Written.{IsWritten}
+use Rattle.gvdl_check.specs.NumberLaws.{no_lowest}
 use Rattle.gvdl_check.specs.PlanLaws.{plan_sound}
 
 -- a refusal of the first part is the answer
@@ -26,6 +28,10 @@ said_so said a (inr e) = absurd cc
 pub fitting : (s : Script) (g : GraphData) (r : Result Plan CheckFault) → Agrees (plan s g) r → IfOk r (λ p. PlanFits g p)
 fitting s g (Ok p) h = (plan_sound s g p (said_so (plan s g) p h)).fits
 fitting s g (Err x) h = tt
+
+pub holding_none : (s : Script) (g : GraphData) (r : Result Plan CheckFault) → IsWritten s → Agrees (plan s g) r → IfOk r HoldsNoLowest
+holding_none s g (Ok p) written h = no_lowest s g p written (said_so (plan s g) p h)
+holding_none s g (Err x) written h = tt
 
 pub counted : (s : Script) (g : GraphData) (r : Result Plan CheckFault) → Agrees (plan s g) r
     → IfOk r (λ p. length p.steps ≡ length s.statements)

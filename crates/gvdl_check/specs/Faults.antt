@@ -1,24 +1,14 @@
 -- What a refusal is called outside, with the number of its statement.
 use Rattle.std.specs.Prelude.{◌≡◌, ◌⊎◌, ℕ, Result, Ok, Err}
-use Rattle.gvdl_parser.specs.declared.fault.ScriptFault.TheVariants as script
 use Rattle.gvdl_check.specs.declared.fault.CheckFault.{CheckFault}
 use Rattle.gvdl_check.specs.declared.fault.CheckFault.TheVariants as fault
 use Rattle.gvdl_programs.specs.declared.refusal.Refusal.{Refusal}
-use Rattle.gvdl_programs.specs.declared.refusal.Refusal.TheVariants as refusal
 use Rattle.gvdl_programs.specs.declared.refusal.Stop.{Stop}
 use Rattle.gvdl_programs.specs.declared.refusal.Stop.TheVariants as stop
 use Rattle.gvdl_programs.specs.Judging.{Judged}
 
 abbrev pub fault_at : ℕ → Refusal → CheckFault
-fault_at n refusal.UnknownName = fault.Fault (script.UnknownName n)
-fault_at n refusal.RepeatedName = fault.Fault (script.RepeatedName n)
-fault_at n refusal.UnknownProperty = fault.Fault (script.UnknownProperty n)
-fault_at n refusal.WrongType = fault.Fault (script.WrongType n)
-fault_at n refusal.WrongArguments = fault.Fault (script.WrongArguments n)
-fault_at n refusal.TooManyViews = fault.Fault (script.TooManyViews n)
-fault_at n refusal.BadRounds = fault.Fault (script.BadRounds n)
-fault_at n refusal.TooManyKept = fault.Fault (script.TooManyKept n)
-fault_at n refusal.BadSplit = fault.Fault (script.BadSplit n)
+fault_at n r = fault.Fault (record { statement = n; refusal = r })
 
 -- what is judged of the statement with this number
 abbrev pub at : {A : Type 0} → ℕ → Judged A → Result A CheckFault

@@ -10,8 +10,10 @@ use Rattle.edge_predicates.specs.declared.pred.Pred.{Pred}
 use Rattle.edge_predicates.specs.declared.pred.Pred.TheOpen.{Pred-F}
 use Rattle.edge_predicates.specs.declared.pred.Pred.TheFolds.{fold-Pred}
 use Rattle.segment_split.specs.Rule.{HasNumber}
-use Rattle.vertex_lang.specs.Leaves.{IsChecked}
+use Rattle.vertex_lang.specs.Values.{lowest_number}
+use Rattle.vertex_lang.specs.Leaves.{HoldsNumber, IsChecked}
 use Rattle.vertex_lang.specs.Lone.{number_of}
+use Rattle.gvdl_programs.specs.Calls.{HasNoLowest, ArgFits}
 use Rattle.gvdl_programs.specs.Fits.{ProgramFits}
 use Rattle.gvdl_check.specs.declared.names.Meaning.{Meaning}
 use Rattle.gvdl_check.specs.declared.names.Meaning.TheVariants as meaning
@@ -55,11 +57,14 @@ pub record ViewsFit (g : GraphData) (views : List ViewPlan) : Type 0 where
   pub rules : All (λ view. RuleFits g view.rule.rules) views
   pub distinct : IsDistinct bytes_eq (map (λ view. view.name) views)
 
--- a run on one of so many collections, of a program that fits the graph, with rounds and segments
--- that are allowed
+-- A run on one of so many collections, of a program that fits the graph, with rounds and segments that are allowed. A
+-- property among the arguments of its call is the name of a column, and its program holds the number -(2^63) only where
+-- an argument is that number.
 pub record RunFits (g : GraphData) (collections : ℕ) (run : RunPlan) : Type 0 where
   pub collection : run.collection < collections
   pub checked : IsChecked run.program g
+  pub call : All (ArgFits g) run.call.args
+  pub numbers : HasNoLowest run.call.args → HoldsNumber run.program lowest_number → ⊥
   pub some : 1 ≤ number_of run.rounds
   pub limit : number_of run.rounds ≤ 1_000_000
   pub split : HasNumber run.split
@@ -71,6 +76,10 @@ pub record PlanFits (g : GraphData) (p : Plan) : Type 0 where
   -- at each step a collection has some of the views that it has at the end
   pub views : (n place : ℕ) → views_at p n place ≤ length (views_in p.collections place)
   pub all : (place : ℕ) → views_at p (length p.steps) place ≡ length (views_in p.collections place)
+
+-- no program of the plan holds the number -(2^63)
+abbrev pub HoldsNoLowest : Plan → Type 0
+HoldsNoLowest p = All (λ run. HoldsNumber run.program lowest_number → ⊥) p.runs
 
 -- ---- on the way to the plan
 

@@ -27,7 +27,8 @@ use Rattle.segment_split.specs.declared.SplitRule.{SplitRule}
 use Rattle.segment_split.specs.declared.SplitRule.TheVariants as split
 use Rattle.vertex_lang.specs.declared.program.Program.{Program}
 use Rattle.vertex_lang.specs.declared.lone.Rounds.{Rounds}
-use Rattle.vertex_lang.specs.Leaves.{IsChecked}
+use Rattle.vertex_lang.specs.Values.{lowest_number}
+use Rattle.vertex_lang.specs.Leaves.{HoldsNumber, IsChecked}
 use Rattle.vertex_lang.specs.Lone.{number_of}
 use Rattle.gvdl_programs.specs.declared.refusal.Refusal.TheVariants as refusal
 use Rattle.gvdl_programs.specs.declared.template.ProgramTemplate.{ProgramTemplate}
@@ -36,9 +37,11 @@ use Rattle.gvdl_programs.specs.declared.template.Callable.TheVariants as callabl
 use Rattle.gvdl_programs.specs.Judging.{Judged, ◌>>=◌, expect}
 use Rattle.gvdl_programs.specs.JudgingLaws.{through, same_value, expected}
 use Rattle.gvdl_programs.specs.Programs.{declared}
-use Rattle.gvdl_programs.specs.Calls.{called}
+use Rattle.gvdl_programs.specs.Calls.{HasNoLowest, ArgFits, called}
 use Rattle.gvdl_programs.specs.Fits.{ProgramFits}
 use Rattle.gvdl_programs.specs.ProgramLaws.{declared_fits, called_checked}
+use Rattle.gvdl_programs.specs.NumberLaws.{called_numbers}
+use Rattle.gvdl_programs.specs.ArgumentLaws.{called_arguments}
 use Rattle.gvdl_check.specs.declared.call.Limits.{Limits}
 use Rattle.gvdl_check.specs.declared.names.Meaning.{Meaning}
 use Rattle.gvdl_check.specs.declared.names.Meaning.TheVariants as meaning
@@ -125,7 +128,7 @@ all_later g n m i j names a b h = All-weaker (NameFits g n m) (NameFits g i j) (
 
 later_run : (g : GraphData) (n i : ℕ) (r : RunPlan) → n ≤ i → RunFits g n r → RunFits g i r
 later_run g n i r a h =
-    record { collection = omega (arith, a, h.collection); checked = h.checked; some = h.some; limit = h.limit; split = h.split }
+    record { collection = omega (arith, a, h.collection); checked = h.checked; call = h.call; numbers = h.numbers; some = h.some; limit = h.limit; split = h.split }
 
 -- the predicates of the graph or of a single view fit
 rules_fit : (g : GraphData) (views : List (List Pred)) (base : Option ℕ) → All (RuleFits g) views → RuleFits g (rules_at views base)
@@ -353,9 +356,11 @@ module _ (g : GraphData) (k : Known) (fit : KnownFits g k) where
       (all_later g (length k.collections) (length k.runs) (length k.collections) (length k.runs + 1) k.names (omega arith) (omega arith) fit.names)
       (omega arith))
 
-  -- the collection that a run is on is there, and its program fits the graph
-  meant_fits : (call : Call) (target : List ℕ) (meant : ℕ × Program) → program_meant g k.names call target ≡ Ok meant
-      → (meant.0 < length k.collections) × IsChecked meant.1 g
+  -- the collection that a run is on is there, and its program and the arguments of its call fit the graph
+  abbrev IsMeant : Call → ℕ × Program → Type 0
+  IsMeant call meant = (meant.0 < length k.collections) × IsChecked meant.1 g × All (ArgFits g) call.args × (HasNoLowest call.args → HoldsNumber meant.1 lowest_number → ⊥)
+
+  meant_fits : (call : Call) (target : List ℕ) (meant : ℕ × Program) → program_meant g k.names call target ≡ Ok meant → IsMeant call meant
   meant_fits call target meant e =
       let last : ℕ × Option ℕ → Program → Judged (ℕ × Program) = λ place it. Ok (place.0, it) in
       let from_place : Callable → ℕ × Option ℕ → Judged (ℕ × Program) = λ found place. called g found call.args >>= last place in
@@ -363,8 +368,12 @@ module _ (g : GraphData) (k : Known) (fit : KnownFits g k) where
       let b = through (collection_of k.names target) (from_place a.value) meant a.rest in
       let c = through (called g a.value call.args) (last b.value) meant b.rest in
       let fitting = found_fits call.name a.value (named_program (program_named k.names call.name) a.value a.first) in
-      subst (λ (m : ℕ × Program). (m.0 < length k.collections) × IsChecked m.1 g) (same_value (b.value.0, c.value) meant c.rest)
-      (place_within target b.value b.first, called_checked g a.value call.args c.value fitting c.first)
+      subst (IsMeant call) (same_value (b.value.0, c.value) meant c.rest) (
+        place_within target b.value b.first,
+        called_checked g a.value call.args c.value fitting c.first,
+        called_arguments g a.value call.args c.value c.first,
+        λ other. called_numbers g a.value call.args c.value fitting other c.first,
+      )
 
   -- the plan of a run fits the graph
   planned_fits : (call : Call) (target : List ℕ) (limits : Limits) (keep : Option (List ℕ)) (planned : RunPlan)
@@ -379,6 +388,8 @@ module _ (g : GraphData) (k : Known) (fit : KnownFits g k) where
       subst (RunFits g (length k.collections)) (same_value (made a.value b.value) planned b.rest) (record {
         collection = meant.0;
         checked = meant.1;
+        call = meant.2;
+        numbers = meant.3;
         some = way.0;
         limit = way.1;
         split = way.2;

@@ -4,9 +4,11 @@ use Rattle.graph_model.specs.GraphData.{GraphData}
 use Rattle.gvdl_tree.specs.declared.script.Script.{Script}
 use Rattle.gvdl_check.specs.declared.plan.Plan.{Plan}
 use Rattle.gvdl_check.specs.Plans.{plan}
-use Rattle.gvdl_check.specs.Fits.{PlanFits}
+use Rattle.gvdl_check.specs.Fits.{PlanFits, HoldsNoLowest}
+use Rattle.gvdl_check.specs.Written.{IsWritten}
 use Rattle.gvdl_check.specs.Continued.{IsContinued, Continues}
 use Rattle.gvdl_check.specs.PlanLaws.{plan_sound}
+use Rattle.gvdl_check.specs.NumberLaws.{no_lowest}
 use Rattle.gvdl_check.specs.ContinuedLaws.{plan_continues}
 
 -- the plan of a script fits the graph, and has one step for each statement behind the load
@@ -16,6 +18,13 @@ PlansFit = (s : Script) (g : GraphData) (p : Plan) → plan s g ≡ Ok p
 
 pub plans_fit : PlansFit
 plans_fit s g p e = let sound = plan_sound s g p e in (sound.fits, sound.steps)
+
+-- no program of the plan of a script holds the number -(2^63)
+abbrev pub PlansHoldNoLowest : Type 0
+PlansHoldNoLowest = (s : Script) (g : GraphData) (p : Plan) → IsWritten s → plan s g ≡ Ok p → HoldsNoLowest p
+
+pub plans_hold_no_lowest : PlansHoldNoLowest
+plans_hold_no_lowest s g p written e = no_lowest s g p written e
 
 -- the plan of a script that is continued goes on from the plan of the shorter one
 abbrev pub PlansContinue : Type 0

@@ -13,6 +13,9 @@ pub mod ViewLaws
 pub mod StepLaws
 pub mod KnownLaws
 pub mod PlanLaws
+pub mod CallLaws
+pub mod WrittenNumbers
+pub mod NumberLaws
 pub mod Continued
 pub mod ContinuedLaws
 pub mod Laws

@@ -14,7 +14,7 @@ use Rattle.gvdl_check.specs.Fits.{KnownFits, PlanFits}
 use Rattle.gvdl_check.specs.StepLaws.{each_fits, some_views, all_views}
 use Rattle.gvdl_check.specs.KnownLaws.{Grows, statement_grows, load_begins}
 
-judged_at : {A : Type 0} (n : ℕ) (said : Judged A) (a : A) → at n said ≡ Ok a → said ≡ Ok a
+pub judged_at : {A : Type 0} (n : ℕ) (said : Judged A) (a : A) → at n said ≡ Ok a → said ≡ Ok a
 judged_at n (Ok b) a e = ap Ok (same_value b a e)
 judged_at n (Err r) a e = absurd cc
 

@@ -3,17 +3,26 @@
 ghost use Rattle.std.specs.Prelude.{◌≡◌};
 ghost use Rattle.gvdl_check.specs.Faults.{fault_at, stop_at};
 
-use gvdl_parser::ScriptFault;
 use gvdl_programs::{Refusal, Stop};
 use surge_outside::NoMemory;
 use thiserror::Error;
 
+/// A fault of a script against a graph: which statement is refused, and why.
+#[derive(Clone, Copy, Debug, PartialEq, Eq, Error)]
+#[error("statement {statement} is refused")]
+pub struct StatementFault {
+    /// The statement's number, from 1; the load is statement 1.
+    pub statement: u32,
+    /// Why it is refused.
+    pub refusal: Refusal,
+}
+
 /// Why [`check`](crate::check) answers no plan.
 #[derive(Clone, Copy, Debug, PartialEq, Eq, Error)]
 pub enum CheckFault {
-    /// The script has this fault, which is its first. Its number is that of a statement, from 1; the load is statement 1.
+    /// The script has this fault, which is its first.
     #[error("{0}")]
-    Fault(ScriptFault),
+    Fault(StatementFault),
     /// A request for memory was refused.
     #[error("out of memory")]
     NoMemory,
@@ -33,17 +42,7 @@ impl From<NoMemory> for CheckFault {
 fn fault_at(refusal: Refusal, statement: u32) -> CheckFault
     ensures { result ≡ fault_at statement refusal }
 {
-    match refusal {
-        Refusal::UnknownName => CheckFault::Fault(ScriptFault::UnknownName(statement)),
-        Refusal::RepeatedName => CheckFault::Fault(ScriptFault::RepeatedName(statement)),
-        Refusal::UnknownProperty => CheckFault::Fault(ScriptFault::UnknownProperty(statement)),
-        Refusal::WrongType => CheckFault::Fault(ScriptFault::WrongType(statement)),
-        Refusal::WrongArguments => CheckFault::Fault(ScriptFault::WrongArguments(statement)),
-        Refusal::TooManyViews => CheckFault::Fault(ScriptFault::TooManyViews(statement)),
-        Refusal::BadRounds => CheckFault::Fault(ScriptFault::BadRounds(statement)),
-        Refusal::TooManyKept => CheckFault::Fault(ScriptFault::TooManyKept(statement)),
-        Refusal::BadSplit => CheckFault::Fault(ScriptFault::BadSplit(statement)),
-    }
+    CheckFault::Fault(StatementFault { statement, refusal })
 }
 
 /// Why the judging of the statement with this number came to an end.

@@ -1,11 +1,16 @@
 //! What follows of plans. These functions have no code: the contract of each is one law, whose proof in `specs/` serves the
 //! rooms above.
 
-ghost use Rattle.gvdl_check.specs.Laws.{PlansFit, PlansContinue};
+ghost use Rattle.gvdl_check.specs.Laws.{PlansFit, PlansHoldNoLowest, PlansContinue};
 
 /// Whatever the check answers as the plan of a script fits the graph, and has one step for each statement behind the load.
 pub fn plans_fit()
     ensures { PlansFit }
+{}
+
+/// No program of the plan that the check answers for a script holds the number -(2^63), which no text can write.
+pub fn plans_hold_no_lowest()
+    ensures { PlansHoldNoLowest }
 {}
 
 /// The plan of a script that is continued by further statements goes on from the plan of the shorter script: its steps, runs

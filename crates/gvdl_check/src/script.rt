@@ -3,7 +3,7 @@
 ghost use Rattle.std.specs.Prelude.{◌≡◌, length, IfOk};
 ghost use Rattle.gvdl_check.specs.Faults.{Agrees};
 ghost use Rattle.gvdl_check.specs.Plans.{plan};
-ghost use Rattle.gvdl_check.specs.Fits.{PlanFits};
+ghost use Rattle.gvdl_check.specs.Fits.{PlanFits, HoldsNoLowest};
 ghost use Rattle.gvdl_check.specs.Written.{IsWritten};
 
 use crate::fault::{CheckFault, stop_at};
@@ -27,6 +27,7 @@ pub fn check(alloc: Global, script: &Script, graph: &Graph) -> Result<Plan, Chec
     requires written { IsWritten script.now }
     ensures exact { Agrees (plan script.now graph.now) result }
     ensures fits { IfOk result (λ p. PlanFits graph.now p) }
+    ensures numbers { IfOk result HoldsNoLowest }
     ensures steps { IfOk result (λ p. length p.steps ≡ length script.now.statements) }
 {
     judged(alloc, script, graph)

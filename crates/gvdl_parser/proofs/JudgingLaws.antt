@@ -134,7 +134,7 @@ first_once all (faults.Syntax l c) (faults.Syntax m d) p q =
     cc
 first_once all (faults.Syntax l c) (faults.NumberTooLarge m d) p q = absurd (syntax_no_number all _ _ p q.0 q.1)
 first_once all (faults.Syntax l c) (faults.TooDeep m d) p q = absurd (syntax_no_deep all _ q.0 p q.1)
-first_once all (faults.Syntax l c) _ p q = absurd q
+first_once all (faults.Syntax l c) faults.NotUtf8 p q = absurd q
 first_once all (faults.NumberTooLarge l c) (faults.Syntax m d) p q = absurd (syntax_no_number all _ _ q p.0 p.1)
 first_once all (faults.NumberTooLarge l c) (faults.NumberTooLarge m d) p q =
     let a : Place = record { line = l; column = c } in
@@ -145,7 +145,7 @@ first_once all (faults.NumberTooLarge l c) (faults.NumberTooLarge m d) p q =
     let columns : c ≡ d = ap (λ (x : Place). x.column) e in
     cc
 first_once all (faults.NumberTooLarge l c) (faults.TooDeep m d) p q = absurd (sound_no_deep q.0 p.0 q.1)
-first_once all (faults.NumberTooLarge l c) _ p q = absurd q
+first_once all (faults.NumberTooLarge l c) faults.NotUtf8 p q = absurd q
 first_once all (faults.TooDeep l c) (faults.Syntax m d) p q = absurd (syntax_no_deep all _ p.0 q p.1)
 first_once all (faults.TooDeep l c) (faults.NumberTooLarge m d) p q = absurd (sound_no_deep p.0 q.0 p.1)
 first_once all (faults.TooDeep l c) (faults.TooDeep m d) p q =
@@ -155,8 +155,8 @@ first_once all (faults.TooDeep l c) (faults.TooDeep m d) p q =
     let lines : l ≡ m = ap (λ (x : Place). x.line) e in
     let columns : c ≡ d = ap (λ (x : Place). x.column) e in
     cc
-first_once all (faults.TooDeep l c) _ p q = absurd q
-first_once all _ g p q = absurd p
+first_once all (faults.TooDeep l c) faults.NotUtf8 p q = absurd q
+first_once all faults.NotUtf8 g p q = absurd p
 
 -- a script has no fault
 no_fault : (all : Tokens) (f : ScriptFault) (tree : Script) → script 64 all.tokens tree → (place : Place) → all.ending ≡ ending.End place → IsFirst all f → ⊥
@@ -166,7 +166,7 @@ no_fault all (faults.Syntax l c) tree p place e q = elim q [
 ]
 no_fault all (faults.NumberTooLarge l c) tree p place e q = let no : ending.End place ≡ ending.NumberTooLarge (record { line = l; column = c }) = sym e ∙ q.1 in absurd cc
 no_fault all (faults.TooDeep l c) tree p place e q = q.1.here (begins_front 64 all.tokens tree (q.0 + 1) p)
-no_fault all _ tree p place e q = absurd q
+no_fault all faults.NotUtf8 tree p place e q = absurd q
 
 -- ---- texts
 
@@ -187,16 +187,6 @@ module _ (text : List ℕ) (all : Tokens) (has : HasTokens text all) (lone : (ot
   of_text (faults.Syntax l c) h = (all, has, h)
   of_text (faults.NumberTooLarge l c) h = (all, has, h)
   of_text (faults.TooDeep l c) h = (all, has, h)
-  of_text faults.TooLarge h = absurd h
-  of_text (faults.UnknownName n) h = absurd h
-  of_text (faults.RepeatedName n) h = absurd h
-  of_text (faults.UnknownProperty n) h = absurd h
-  of_text (faults.WrongType n) h = absurd h
-  of_text (faults.WrongArguments n) h = absurd h
-  of_text (faults.TooManyViews n) h = absurd h
-  of_text (faults.BadRounds n) h = absurd h
-  of_text (faults.TooManyKept n) h = absurd h
-  of_text (faults.BadSplit n) h = absurd h
 
   pub faulted : (r : Result Script ParseFault) → Judges all r → (f : ScriptFault) → r ≡ Err (outcome.Fault f) → IsFirstFault text f
   faulted (Ok tree) h f e = absurd cc
@@ -213,7 +203,6 @@ module _ (text : List ℕ) (all : Tokens) (has : HasTokens text all) (lone : (ot
   of_tokens (faults.Syntax l c) h = subst (λ (x : Tokens). IsFirst x (faults.Syntax l c)) (lone h.0 h.1) h.2
   of_tokens (faults.NumberTooLarge l c) h = subst (λ (x : Tokens). IsFirst x (faults.NumberTooLarge l c)) (lone h.0 h.1) h.2
   of_tokens (faults.TooDeep l c) h = subst (λ (x : Tokens). IsFirst x (faults.TooDeep l c)) (lone h.0 h.1) h.2
-  of_tokens _ h = absurd h.2
 
   pub all_faults : (r : Result Script ParseFault) → Judges all r → (f : ScriptFault) → IsFirstFault text f → (r ≡ Err (outcome.Fault f)) ⊎ (r ≡ Err outcome.NoMemory)
   all_faults (Ok tree) h f k = absurd (no_fault all f tree h.0.whole h.1.0 h.1.1 (of_tokens f k))

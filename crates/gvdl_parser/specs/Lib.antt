@@ -6,4 +6,3 @@ pub mod Statements
 pub mod Parsing
 pub mod Script
 pub mod Judging
-pub mod FaultNumbers

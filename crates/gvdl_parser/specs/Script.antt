@@ -45,7 +45,7 @@ abbrev pub IsFirst : Tokens → ScriptFault → Type 0
 IsFirst all (faults.Syntax line column) = HasSyntaxAt all (record { line = line; column = column })
 IsFirst all (faults.NumberTooLarge line column) = IsSoundTo opens script 64 all.tokens (length all.tokens) × (all.ending ≡ ending.NumberTooLarge (record { line = line; column = column }))
 IsFirst all (faults.TooDeep line column) = (k : ℕ) × IsFirstTooDeep opens script 64 all.tokens k × (slice_get all.places k ≡ Some (record { line = line; column = column }))
-IsFirst all _ = ⊥
+IsFirst all faults.NotUtf8 = ⊥
 
 -- the first fault of a text
 abbrev pub IsFirstFault : List ℕ → ScriptFault → Type 0

@@ -11,6 +11,7 @@ use gvdl_tokens::{Kind, Sign, Word};
 use gvdl_tree::ExprTree;
 use phrase_theory::Fault;
 use std::alloc::Global;
+use surge_outside::Boxed;
 
 fn number_leaf(cursor: &mut Cursor<'_>) -> Result<ExprTree, Fault>
     ensures { (n : ℕ) → Reads opens (λ _. number_leaf) alone n cursor.old.rest.now result cursor.new.rest.now }
@@ -58,8 +59,8 @@ fn param_leaf(alloc: Global, cursor: &mut Cursor<'_>) -> Result<ExprTree, Fault>
     Ok(ExprTree::Param(name))
 }
 
-/// A number, `none`, a word that stands for a value, a property or a parameter.
-pub fn leaf(alloc: Global, cursor: &mut Cursor<'_>) -> Result<ExprTree, Fault>
+// A number, `none`, a word that stands for a value, a property or a parameter.
+fn bare_leaf(alloc: Global, cursor: &mut Cursor<'_>) -> Result<ExprTree, Fault>
     ensures { (n : ℕ) → Reads opens (λ _. leaf) alone n cursor.old.rest.now result cursor.new.rest.now }
 {
     if cursor.sees_word(Word::None) {
@@ -75,5 +76,15 @@ pub fn leaf(alloc: Global, cursor: &mut Cursor<'_>) -> Result<ExprTree, Fault>
         Kind::Number => number_leaf(cursor),
         Kind::Name => param_leaf(alloc, cursor),
         _ => word_leaf(cursor),
+    }
+}
+
+/// A number, `none`, a word that stands for a value, a property or a parameter.
+pub fn leaf(alloc: Global, cursor: &mut Cursor<'_>) -> Result<Boxed<ExprTree>, Fault>
+    ensures { (n : ℕ) → Reads opens (λ _. leaf) alone n cursor.old.rest.now result cursor.new.rest.now }
+{
+    match bare_leaf(alloc, cursor) {
+        Ok(tree) => Ok(Boxed::new(alloc, tree)?),
+        Err(fault) => Err(fault),
     }
 }

@@ -20,8 +20,8 @@ use std::alloc::Global;
 ///
 /// # Errors
 ///
-/// [`ParseFault::Fault`] with the text's first fault, exactly where it has one; of the kinds of [`ScriptFault`], it is
-/// one of the first four. [`ParseFault::NoMemory`] where a request for memory was refused.
+/// [`ParseFault::Fault`] with the text's first fault, exactly where it has one. [`ParseFault::NoMemory`] where a request
+/// for memory was refused.
 pub fn parse(alloc: Global, text: &[u8]) -> Result<Script, ParseFault>
     requires { length text.now < 2 ^ 31 }
     ensures found { IfOk result (λ s. IsScript text.now s) }

@@ -3,6 +3,7 @@
 ghost use Rattle.std.specs.Prelude.{◌≡◌, ℕ};
 ghost use Rattle.phrase_theory.specs.Phrases.{one};
 ghost use Rattle.phrase_theory.specs.Reading.{alone, Reads};
+ghost use Rattle.gvdl_tree.specs.declared.script.Statement.{Statement};
 ghost use Rattle.gvdl_parser.specs.Terminals.{opens, along_token, gather_token};
 ghost use Rattle.gvdl_parser.specs.Expressions.{expression};
 ghost use Rattle.gvdl_parser.specs.Statements.{part, program};
@@ -16,6 +17,7 @@ use gvdl_tokens::{Sign, Word};
 use gvdl_tree::{Along, ExprTree, Gather, Statement};
 use phrase_theory::Fault;
 use std::alloc::Global;
+use surge_outside::{Boxed, List, Text};
 
 fn along_part(cursor: &mut Cursor<'_>) -> Result<Along, Fault>
     ensures { (n : ℕ) → Reads opens (λ _. part Word.Along (one along_token)) alone n cursor.old.rest.now result cursor.new.rest.now }
@@ -40,13 +42,35 @@ fn expression_part(
     cursor: &mut Cursor<'_>,
     word: Word,
     levels: usize,
-) -> Result<ExprTree, Fault>
+) -> Result<Boxed<ExprTree>, Fault>
     ensures { Reads opens (λ n. part word (expression n)) alone levels cursor.old.rest.now result cursor.new.rest.now }
 {
     cursor.word(word)?;
     let tree = expression(alloc, cursor, levels)?;
     cursor.sign(Sign::Semicolon)?;
     Ok(tree)
+}
+
+fn defined(
+    name: Text,
+    params: List<Text>,
+    along: Along,
+    start: Boxed<ExprTree>,
+    send: Boxed<ExprTree>,
+    gather: Gather,
+    update: Boxed<ExprTree>,
+) -> Statement
+    ensures { result ≡ Statement.Program name params along start send gather update }
+{
+    Statement::Program {
+        name,
+        params,
+        along,
+        start: start.into_inner(),
+        send: send.into_inner(),
+        gather,
+        update: update.into_inner(),
+    }
 }
 
 /// The statement that defines a program.
@@ -62,13 +86,5 @@ pub fn program(alloc: Global, cursor: &mut Cursor<'_>, levels: usize) -> Result<
     let gather = gather_part(cursor)?;
     let update = expression_part(alloc, cursor, Word::Update, levels)?;
     cursor.sign(Sign::CloseBrace)?;
-    Ok(Statement::Program {
-        name,
-        params,
-        along,
-        start,
-        send,
-        gather,
-        update,
-    })
+    Ok(defined(name, params, along, start, send, gather, update))
 }

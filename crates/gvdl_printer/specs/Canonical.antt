@@ -177,6 +177,10 @@ canonical script = line (load_pieces script) ++ flat_map (λ statement. line (st
 abbrev pub canonical_tokens : Script → List Token
 canonical_tokens script = tokens (load_pieces script) ++ flat_map (λ statement. tokens (statement_pieces statement)) script.statements
 
+-- the canonical text of a property
+abbrev pub canonical_property : List ℕ → List ℕ
+canonical_property name = laid_out (prop_piece name ∷ [])
+
 -- the canonical text of a call
 abbrev pub canonical_call : Call → List ℕ
 canonical_call call = laid_out (call_pieces call)

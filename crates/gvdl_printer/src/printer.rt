@@ -6,9 +6,10 @@ ghost use Rattle.gvdl_parser.specs.Statements.{script as script_phrase};
 ghost use Rattle.gvdl_parser.specs.Script.{IsScriptWith, IsScript};
 ghost use Rattle.gvdl_printer.specs.Again.{IsScriptAgain, IsParsedAs};
 ghost use Rattle.gvdl_printer.specs.Layout.{line};
-ghost use Rattle.gvdl_printer.specs.Canonical.{canonical, canonical_tokens, canonical_call, load_pieces, statement_pieces};
+ghost use Rattle.gvdl_printer.specs.Canonical.{canonical, canonical_tokens, canonical_call, canonical_property, load_pieces, statement_pieces};
 ghost use Rattle.gvdl_printer.specs.Pages.{wrote};
 
+use crate::leaf::prop;
 use crate::page::Page;
 use crate::program::{Ways, program};
 use crate::run::{Limits, call, run, show};
@@ -16,7 +17,7 @@ use crate::view::{append, collection, named, single};
 use gvdl_tokens::{Sign, Word, laid_out_tokens_are_read_again};
 use gvdl_tree::{Call, Script, Statement};
 use std::alloc::Global;
-use surge_outside::{List, NoMemory};
+use surge_outside::{List, NoMemory, Text};
 
 /// The canonical text of a script: one statement a line, the load first, each line ended by LF.
 ///
@@ -64,6 +65,20 @@ pub fn print_call(alloc: Global, called: &Call) -> Result<List<u8>, NoMemory>
 {
     let mut page = Page::new(alloc);
     call(alloc, &mut page, called)?;
+    Ok(page.text)
+}
+
+/// The text of a property as the canonical text of a script has it, by its name: the name itself where it may stand bare,
+/// which is a letter or `_` and then letters, digits and `_`, and no reserved word; any other name in quotes.
+///
+/// # Errors
+///
+/// [`NoMemory`] where a request for memory was refused.
+pub fn print_property(alloc: Global, name: &Text) -> Result<List<u8>, NoMemory>
+    ensures { IfOk result (λ text. text ≡ canonical_property name.now) }
+{
+    let mut page = Page::new(alloc);
+    prop(&mut page, name)?;
     Ok(page.text)
 }
 

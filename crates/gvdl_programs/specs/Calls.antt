@@ -1,9 +1,10 @@
 -- The program that a call means.
-use Rattle.std.specs.Prelude.{ℕ, ℤ, ◌==◌, List, [], ◌∷◌, length, map, Ok, Err}
-use Rattle.graph_model.specs.GraphData.{GraphData}
+use Rattle.std.specs.Prelude.{ℕ, ℤ, ◌≢◌, All, Contains, ◌==◌, List, [], ◌∷◌, length, map, Ok, Err}
+use Rattle.graph_model.specs.GraphData.{GraphData, names_of}
 use Rattle.gvdl_tree.specs.declared.script.Arg.{Arg}
 use Rattle.gvdl_tree.specs.declared.script.Arg.TheVariants as arg
 use Rattle.vertex_lang.specs.declared.program.Program.{Program}
+use Rattle.vertex_lang.specs.Values.{lowest_number}
 use Rattle.graph_algos.specs.Hops.{hops}
 use Rattle.graph_algos.specs.Dist.{dist}
 use Rattle.graph_algos.specs.Wcc.{wcc}
@@ -20,6 +21,15 @@ use Rattle.gvdl_programs.specs.Filled.{filled_program}
 abbrev pub number_argument : Arg → Judged ℤ
 number_argument (arg.Number z) = Ok z
 number_argument (arg.Prop name) = Err refusal.WrongArguments
+
+-- no argument is the number -(2^63), which no script can write
+abbrev pub HasNoLowest : List Arg → Type 0
+HasNoLowest args = All (λ a. a ≢ arg.Number lowest_number) args
+
+-- a property among the arguments names a column of the edges
+abbrev pub ArgFits : GraphData → Arg → Type 0
+ArgFits g (arg.Number z) = Unit {0}
+ArgFits g (arg.Prop name) = Contains (names_of g.edge_columns) name
 
 -- a property of the edges is needed, of whole numbers
 abbrev pub weight_of : GraphData → Arg → Judged ℕ

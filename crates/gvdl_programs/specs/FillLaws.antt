@@ -1,41 +1,21 @@
--- What fits a graph keeps fitting it when numbers stand in place of its parameters.
+-- What fits keeps fitting when numbers that are allowed stand in place of its parameters.
 use Rattle.std.proofs.Common.{◌≡◌, ◌∙◌, ℕ, ℤ, pos, Bool, true, false, ◌&&◌, List, [], ◌∷◌, ◌++◌, map, flat_map, get_or, refl, sym, ap, subst}
 use Rattle.std.specs.List.{list_all}
 use Rattle.std.proofs.lemmas.List.Folds.{list_all-append}
-use Rattle.graph_model.specs.GraphData.{GraphData}
 use Rattle.gvdl_tree.specs.declared.expression.Word.{Word}
 use Rattle.gvdl_tree.specs.declared.expression.Word.TheVariants as word
 use Rattle.vertex_lang.specs.declared.program.Expr.{Expr}
 use Rattle.vertex_lang.specs.declared.program.Check.{Check}
-use Rattle.vertex_lang.specs.Leaves.{Leaf, is_int_column, in_start, in_send, in_update, leaves_of, leaves_of_check}
+use Rattle.vertex_lang.specs.Leaves.{Leaf, leaves_of, leaves_of_check}
 use Rattle.vertex_lang.specs.Trees.{leaves-If, leaves-Else, leaves-Sum, leaves-Product, leaves-Minus, leaves-Number, leaves-Nil, leaves-Id, leaves-Start, leaves-Value, leaves-Gathered, leaves-Count, leaves-Outdeg, leaves-EdgeProp, leaves-NodeProp, leaves-Least, leaves-Most, leaves-Compare, leaves-IsNil}
 use Rattle.gvdl_programs.specs.declared.template.ExprTemplate.{ExprTemplate}
 use Rattle.gvdl_programs.specs.declared.template.CheckTemplate.{CheckTemplate}
 use Rattle.gvdl_programs.specs.declared.template.CheckTemplate.TheOpen.{ExprTemplate-F, CheckTemplate-F}
 use Rattle.gvdl_programs.specs.declared.template.CheckTemplate.TheViews.{roll-ExprTemplate, roll-CheckTemplate}
 use Rattle.gvdl_programs.specs.declared.template.CheckTemplate.TheFolds.{fold-roll-ExprTemplate, fold-roll-CheckTemplate, map-ExprTemplate, map-CheckTemplate, ind-ExprTemplate}
-use Rattle.gvdl_programs.specs.declared.expression.Part.{Part}
-use Rattle.gvdl_programs.specs.declared.expression.Part.TheVariants as part
-use Rattle.gvdl_programs.specs.Expressions.{allows_word, allows_node, allows_edge}
 use Rattle.gvdl_programs.specs.Filled.{word_expression, check_filled, expression_filled, filled, filled_check}
-use Rattle.gvdl_programs.specs.Fits.{fits, fits_check, check_fits, expression_fits}
+use Rattle.gvdl_programs.specs.Fits.{word_leaf, fits, fits_check, check_fits, expression_fits}
 use Rattle.gvdl_programs.specs.FitLaws.{fits_rolls, check_fits_rolls}
-
--- what a part of a program may hold
-abbrev pub in_part : GraphData → Part → Leaf → Bool
-in_part g part.Start = in_start g.node_columns
-in_part g part.Send = in_send g.edge_columns
-in_part g part.Update = in_update
-
--- ---- words and properties
-
-abbrev word_leaf : Word → Leaf
-word_leaf word.Id = Leaf.id
-word_leaf word.Start = Leaf.start
-word_leaf word.Value = Leaf.value
-word_leaf word.Gathered = Leaf.gathered
-word_leaf word.Count = Leaf.count
-word_leaf word.Outdeg = Leaf.outdeg
 
 word_leaves : (w : Word) → leaves_of (word_expression w) ≡ word_leaf w ∷ []
 word_leaves word.Id = leaves-Id
@@ -45,44 +25,9 @@ word_leaves word.Gathered = leaves-Gathered
 word_leaves word.Count = leaves-Count
 word_leaves word.Outdeg = leaves-Outdeg
 
-word_fits : (g : GraphData) (p : Part) (w : Word) → (in_part g p (word_leaf w) && true) ≡ allows_word p w
-word_fits g part.Start word.Id = refl
-word_fits g part.Start word.Start = refl
-word_fits g part.Start word.Value = refl
-word_fits g part.Start word.Gathered = refl
-word_fits g part.Start word.Count = refl
-word_fits g part.Start word.Outdeg = refl
-word_fits g part.Send word.Id = refl
-word_fits g part.Send word.Start = refl
-word_fits g part.Send word.Value = refl
-word_fits g part.Send word.Gathered = refl
-word_fits g part.Send word.Count = refl
-word_fits g part.Send word.Outdeg = refl
-word_fits g part.Update word.Id = refl
-word_fits g part.Update word.Start = refl
-word_fits g part.Update word.Value = refl
-word_fits g part.Update word.Gathered = refl
-word_fits g part.Update word.Count = refl
-word_fits g part.Update word.Outdeg = refl
-
 and_true : (b : Bool) → (b && true) ≡ b
 and_true true = refl
 and_true false = refl
-
-edge_fits : (g : GraphData) (p : Part) (column : ℕ) → (in_part g p (Leaf.edge_property column) && true) ≡ (allows_edge p && is_int_column g.edge_columns column)
-edge_fits g part.Start column = refl
-edge_fits g part.Send column = and_true (is_int_column g.edge_columns column)
-edge_fits g part.Update column = refl
-
-node_fits : (g : GraphData) (p : Part) (column : ℕ) → (in_part g p (Leaf.node_property column) && true) ≡ (allows_node p && is_int_column g.node_columns column)
-node_fits g part.Start column = and_true (is_int_column g.node_columns column)
-node_fits g part.Send column = refl
-node_fits g part.Update column = refl
-
-number_fits : (g : GraphData) (p : Part) (z : ℤ) → (in_part g p (Leaf.number z) && true) ≡ true
-number_fits g part.Start z = refl
-number_fits g part.Send z = refl
-number_fits g part.Update z = refl
 
 -- ---- lists
 
@@ -97,15 +42,15 @@ module _ (q : Leaf → Bool) where
 
 -- ---- trees
 
-module _ (g : GraphData) (p : Part) (ns : List ℤ) where
+module _ (q : Leaf → Bool) (ns : List ℤ) (given : (n : ℕ) → q (Leaf.number (get_or ns n (pos 0))) ≡ true) where
   abbrev held : List Leaf → Bool
-  held ls = list_all (in_part g p) ls
+  held ls = list_all q ls
 
   abbrev Same : ExprTemplate → Type 0
-  Same t = held (leaves_of (filled ns t)) ≡ fits g p t
+  Same t = held (leaves_of (filled ns t)) ≡ fits q t
 
   abbrev SameCheck : CheckTemplate → Type 0
-  SameCheck t = held (leaves_of_check (filled_check ns t)) ≡ fits_check g p t
+  SameCheck t = held (leaves_of_check (filled_check ns t)) ≡ fits_check q t
 
   filled_roll : (x : ExprTemplate-F CheckTemplate ExprTemplate) → filled ns (roll-ExprTemplate x) ≡ expression_filled ns (map-ExprTemplate CheckTemplate ExprTemplate Check Expr (filled_check ns) (filled ns) x)
   unfolding filled filled_check
@@ -117,44 +62,44 @@ module _ (g : GraphData) (p : Part) (ns : List ℤ) where
 
   -- by the leaves of what is filled in
   by_leaves : (x : ExprTemplate-F CheckTemplate ExprTemplate) (ls : List Leaf) → leaves_of (expression_filled ns (map-ExprTemplate CheckTemplate ExprTemplate Check Expr (filled_check ns) (filled ns) x)) ≡ ls
-      → held ls ≡ expression_fits g p (map-ExprTemplate CheckTemplate ExprTemplate Bool Bool (fits_check g p) (fits g p) x) → Same (roll-ExprTemplate x)
-  by_leaves x ls is h = ap (λ (e : Expr). held (leaves_of e)) (filled_roll x) ∙ ap held is ∙ h ∙ sym (fits_rolls g p (roll-ExprTemplate x) x refl)
+      → held ls ≡ expression_fits q (map-ExprTemplate CheckTemplate ExprTemplate Bool Bool (fits_check q) (fits q) x) → Same (roll-ExprTemplate x)
+  by_leaves x ls is h = ap (λ (e : Expr). held (leaves_of e)) (filled_roll x) ∙ ap held is ∙ h ∙ sym (fits_rolls q (roll-ExprTemplate x) x refl)
 
   check_by_leaves : (x : CheckTemplate-F CheckTemplate ExprTemplate) (ls : List Leaf) → leaves_of_check (check_filled (map-CheckTemplate CheckTemplate ExprTemplate Check Expr (filled_check ns) (filled ns) x)) ≡ ls
-      → held ls ≡ check_fits (map-CheckTemplate CheckTemplate ExprTemplate Bool Bool (fits_check g p) (fits g p) x) → SameCheck (roll-CheckTemplate x)
-  check_by_leaves x ls is h = ap (λ (c : Check). held (leaves_of_check c)) (check_roll x) ∙ ap held is ∙ h ∙ sym (check_fits_rolls g p (roll-CheckTemplate x) x refl)
+      → held ls ≡ check_fits (map-CheckTemplate CheckTemplate ExprTemplate Bool Bool (fits_check q) (fits q) x) → SameCheck (roll-CheckTemplate x)
+  check_by_leaves x ls is h = ap (λ (c : Check). held (leaves_of_check c)) (check_roll x) ∙ ap held is ∙ h ∙ sym (check_fits_rolls q (roll-CheckTemplate x) x refl)
 
-  two_same : (a b : ExprTemplate) → Same a → Same b → held (leaves_of (filled ns a) ++ leaves_of (filled ns b)) ≡ (fits g p a && fits g p b)
-  two_same a b h k = joined (in_part g p) (leaves_of (filled ns a)) (leaves_of (filled ns b)) (fits g p a) (fits g p b) h k
+  two_same : (a b : ExprTemplate) → Same a → Same b → held (leaves_of (filled ns a) ++ leaves_of (filled ns b)) ≡ (fits q a && fits q b)
+  two_same a b h k = joined q (leaves_of (filled ns a)) (leaves_of (filled ns b)) (fits q a) (fits q b) h k
 
   chain_same : (B : Type 0) (f : B → ExprTemplate) → ((b : B) → Same (f b)) → (rest : List (Bool × B))
       → held (flat_map (λ (m : Bool × Expr). leaves_of m.1) (map (λ (m : Bool × ExprTemplate). (m.0, filled ns m.1)) (map (λ (m : Bool × B). (m.0, f m.1)) rest)))
-      ≡ list_all (λ (r : Bool × Bool). r.1) (map (λ (m : Bool × ExprTemplate). (m.0, fits g p m.1)) (map (λ (m : Bool × B). (m.0, f m.1)) rest))
-  chain_same B f h rest = members_fit (in_part g p) (λ (m : Bool × B). (m.0, f m.1)) (λ (m : Bool × ExprTemplate). (m.0, filled ns m.1)) (λ (m : Bool × Expr). leaves_of m.1) (λ (m : Bool × ExprTemplate). (m.0, fits g p m.1)) (λ (r : Bool × Bool). r.1) (λ m. h m.1) rest
+      ≡ list_all (λ (r : Bool × Bool). r.1) (map (λ (m : Bool × ExprTemplate). (m.0, fits q m.1)) (map (λ (m : Bool × B). (m.0, f m.1)) rest))
+  chain_same B f h rest = members_fit q (λ (m : Bool × B). (m.0, f m.1)) (λ (m : Bool × ExprTemplate). (m.0, filled ns m.1)) (λ (m : Bool × Expr). leaves_of m.1) (λ (m : Bool × ExprTemplate). (m.0, fits q m.1)) (λ (r : Bool × Bool). r.1) (λ m. h m.1) rest
 
   same_at : (A B : Type 0) (k : A → CheckTemplate) (f : B → ExprTemplate) → ((a : A) → SameCheck (k a)) → ((b : B) → Same (f b)) → (y : ExprTemplate-F A B) → Same (roll-ExprTemplate (map-ExprTemplate A B CheckTemplate ExprTemplate k f y))
   same_at A B k f hk hf (ExprTemplate-F.If checks a b) =
       let cs = map (filled_check ns) (map k checks) in
       by_leaves (ExprTemplate-F.If (map k checks) (f a) (f b)) _ (leaves-If cs (filled ns (f a)) (filled ns (f b)))
-      (joined (in_part g p) (flat_map leaves_of_check cs) (leaves_of (filled ns (f a)) ++ leaves_of (filled ns (f b))) (list_all (λ (b : Bool). b) (map (fits_check g p) (map k checks))) (fits g p (f a) && fits g p (f b))
-      (members_fit (in_part g p) k (filled_check ns) leaves_of_check (fits_check g p) (λ (b : Bool). b) hk checks) (two_same (f a) (f b) (hf a) (hf b)))
+      (joined q (flat_map leaves_of_check cs) (leaves_of (filled ns (f a)) ++ leaves_of (filled ns (f b))) (list_all (λ (b : Bool). b) (map (fits_check q) (map k checks))) (fits q (f a) && fits q (f b))
+      (members_fit q k (filled_check ns) leaves_of_check (fits_check q) (λ (b : Bool). b) hk checks) (two_same (f a) (f b) (hf a) (hf b)))
   same_at A B k f hk hf (ExprTemplate-F.Else members) =
-      by_leaves (ExprTemplate-F.Else (map f members)) _ (leaves-Else (map (filled ns) (map f members))) (members_fit (in_part g p) f (filled ns) leaves_of (fits g p) (λ (b : Bool). b) hf members)
+      by_leaves (ExprTemplate-F.Else (map f members)) _ (leaves-Else (map (filled ns) (map f members))) (members_fit q f (filled ns) leaves_of (fits q) (λ (b : Bool). b) hf members)
   same_at A B k f hk hf (ExprTemplate-F.Sum a rest) =
       let ms = map (λ (m : Bool × B). (m.0, f m.1)) rest in
       let es = map (λ (m : Bool × ExprTemplate). (m.0, filled ns m.1)) ms in
-      by_leaves (ExprTemplate-F.Sum (f a) ms) _ (leaves-Sum (filled ns (f a)) es) (joined (in_part g p) (leaves_of (filled ns (f a))) (flat_map (λ (m : Bool × Expr). leaves_of m.1) es) (fits g p (f a)) _ (hf a) (chain_same B f hf rest))
+      by_leaves (ExprTemplate-F.Sum (f a) ms) _ (leaves-Sum (filled ns (f a)) es) (joined q (leaves_of (filled ns (f a))) (flat_map (λ (m : Bool × Expr). leaves_of m.1) es) (fits q (f a)) _ (hf a) (chain_same B f hf rest))
   same_at A B k f hk hf (ExprTemplate-F.Product a rest) =
       let ms = map (λ (m : Bool × B). (m.0, f m.1)) rest in
       let es = map (λ (m : Bool × ExprTemplate). (m.0, filled ns m.1)) ms in
-      by_leaves (ExprTemplate-F.Product (f a) ms) _ (leaves-Product (filled ns (f a)) es) (joined (in_part g p) (leaves_of (filled ns (f a))) (flat_map (λ (m : Bool × Expr). leaves_of m.1) es) (fits g p (f a)) _ (hf a) (chain_same B f hf rest))
+      by_leaves (ExprTemplate-F.Product (f a) ms) _ (leaves-Product (filled ns (f a)) es) (joined q (leaves_of (filled ns (f a))) (flat_map (λ (m : Bool × Expr). leaves_of m.1) es) (fits q (f a)) _ (hf a) (chain_same B f hf rest))
   same_at A B k f hk hf (ExprTemplate-F.Minus a) = by_leaves (ExprTemplate-F.Minus (f a)) _ (leaves-Minus (filled ns (f a))) (hf a)
-  same_at A B k f hk hf (ExprTemplate-F.Number z) = by_leaves (ExprTemplate-F.Number z) _ (leaves-Number z) (number_fits g p z)
+  same_at A B k f hk hf (ExprTemplate-F.Number z) = by_leaves (ExprTemplate-F.Number z) _ (leaves-Number z) (and_true (q (Leaf.number z)))
   same_at A B k f hk hf ExprTemplate-F.Nil = by_leaves ExprTemplate-F.Nil _ leaves-Nil refl
-  same_at A B k f hk hf (ExprTemplate-F.Word w) = by_leaves (ExprTemplate-F.Word w) _ (word_leaves w) (word_fits g p w)
-  same_at A B k f hk hf (ExprTemplate-F.EdgeProp column) = by_leaves (ExprTemplate-F.EdgeProp column) _ (leaves-EdgeProp column) (edge_fits g p column)
-  same_at A B k f hk hf (ExprTemplate-F.NodeProp column) = by_leaves (ExprTemplate-F.NodeProp column) _ (leaves-NodeProp column) (node_fits g p column)
-  same_at A B k f hk hf (ExprTemplate-F.Param n) = by_leaves (ExprTemplate-F.Param n) _ (leaves-Number (get_or ns n (pos 0))) (number_fits g p (get_or ns n (pos 0)))
+  same_at A B k f hk hf (ExprTemplate-F.Word w) = by_leaves (ExprTemplate-F.Word w) _ (word_leaves w) (and_true (q (word_leaf w)))
+  same_at A B k f hk hf (ExprTemplate-F.EdgeProp column) = by_leaves (ExprTemplate-F.EdgeProp column) _ (leaves-EdgeProp column) (and_true (q (Leaf.edge_property column)))
+  same_at A B k f hk hf (ExprTemplate-F.NodeProp column) = by_leaves (ExprTemplate-F.NodeProp column) _ (leaves-NodeProp column) (and_true (q (Leaf.node_property column)))
+  same_at A B k f hk hf (ExprTemplate-F.Param n) = by_leaves (ExprTemplate-F.Param n) _ (leaves-Number (get_or ns n (pos 0))) (and_true (q (Leaf.number (get_or ns n (pos 0)))) ∙ given n)
   same_at A B k f hk hf (ExprTemplate-F.Least a b) = by_leaves (ExprTemplate-F.Least (f a) (f b)) _ (leaves-Least (filled ns (f a)) (filled ns (f b))) (two_same (f a) (f b) (hf a) (hf b))
   same_at A B k f hk hf (ExprTemplate-F.Most a b) = by_leaves (ExprTemplate-F.Most (f a) (f b)) _ (leaves-Most (filled ns (f a)) (filled ns (f b))) (two_same (f a) (f b) (hf a) (hf b))
 

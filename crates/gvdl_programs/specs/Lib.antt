@@ -10,3 +10,5 @@ pub mod Fits
 pub mod FitLaws
 pub mod FillLaws
 pub mod ProgramLaws
+pub mod NumberLaws
+pub mod ArgumentLaws

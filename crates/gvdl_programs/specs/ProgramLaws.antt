@@ -1,6 +1,7 @@
 -- What is declared fits its graph, and what is called is checked against it.
-use Rattle.std.proofs.Common.{◌≡◌, ◌∙◌, ℕ, true, List, [], ◌∷◌, map, length, subst, Ok}
+use Rattle.std.proofs.Common.{◌≡◌, ◌∙◌, ℕ, ℤ, pos, true, List, [], ◌∷◌, map, length, get_or, subst, Ok}
 use Rattle.std.specs.Prelude.{◌==◌}
+use Rattle.std.specs.List.{list_all}
 use Rattle.graph_model.specs.GraphData.{GraphData}
 use Rattle.gvdl_tree.specs.declared.expression.ExprTree.{ExprTree}
 use Rattle.gvdl_tree.specs.declared.script.Along.{Along}
@@ -8,7 +9,7 @@ use Rattle.gvdl_tree.specs.declared.script.Gather.{Gather}
 use Rattle.gvdl_tree.specs.declared.script.Arg.{Arg}
 use Rattle.gvdl_tree.specs.declared.script.Arg.TheVariants as arg
 use Rattle.vertex_lang.specs.declared.program.Program.{Program}
-use Rattle.vertex_lang.specs.Leaves.{IsChecked, is_int_column}
+use Rattle.vertex_lang.specs.Leaves.{IsChecked, is_int_column, leaves_of}
 use Rattle.graph_algos.specs.Hops.{hops}
 use Rattle.graph_algos.specs.HopsLaws.{hops_checked}
 use Rattle.graph_algos.specs.Dist.{dist}
@@ -21,15 +22,17 @@ use Rattle.gvdl_programs.specs.declared.refusal.Refusal.TheVariants as refusal
 use Rattle.gvdl_programs.specs.declared.template.ProgramTemplate.{ProgramTemplate}
 use Rattle.gvdl_programs.specs.declared.template.Callable.{Callable}
 use Rattle.gvdl_programs.specs.declared.template.Callable.TheVariants as callable
+use Rattle.gvdl_programs.specs.declared.template.ExprTemplate.{ExprTemplate}
+use Rattle.gvdl_programs.specs.declared.expression.Part.{Part}
 use Rattle.gvdl_programs.specs.declared.expression.Part.TheVariants as part
 use Rattle.gvdl_programs.specs.Judging.{◌>>=◌, expect, each}
 use Rattle.gvdl_programs.specs.JudgingLaws.{through, same_value}
 use Rattle.gvdl_programs.specs.Expressions.{Places, expression}
 use Rattle.gvdl_programs.specs.Programs.{parameters_of, program_template, declared}
-use Rattle.gvdl_programs.specs.Filled.{filled_program}
+use Rattle.gvdl_programs.specs.Filled.{filled, filled_program}
 use Rattle.gvdl_programs.specs.Calls.{number_argument, weight_of, hops_called, dist_called, plain_called, written_called, called}
-use Rattle.gvdl_programs.specs.Fits.{TemplateFits, ProgramFits}
-use Rattle.gvdl_programs.specs.FitLaws.{int_found, expression_fits_so}
+use Rattle.gvdl_programs.specs.Fits.{in_part, not_lowest, fits, TemplateFits, ProgramFits}
+use Rattle.gvdl_programs.specs.FitLaws.{int_found, number_in_part, part_allows, numbers_allowed, expression_fits_so}
 use Rattle.gvdl_programs.specs.FillLaws.{filled_fits}
 
 -- a program that is declared fits the graph
@@ -41,10 +44,19 @@ declared_fits g names way start send how update t e =
     let c = through (expression g part.Send ps send) (λ y. expression g part.Update ps update >>= λ z. Ok (program_template (length names) way b.value y how z)) t b.rest in
     let d = through (expression g part.Update ps update) (λ z. Ok (program_template (length names) way b.value c.value how z)) t c.rest in
     subst (TemplateFits g) (same_value (program_template (length names) way b.value c.value how d.value) t d.rest) (record {
-      start = expression_fits_so g part.Start ps start b.value b.first;
-      send = expression_fits_so g part.Send ps send c.value c.first;
-      update = expression_fits_so g part.Update ps update d.value d.first;
+      start = expression_fits_so g part.Start ps (in_part g part.Start) (part_allows g part.Start) start b.value b.first;
+      send = expression_fits_so g part.Send ps (in_part g part.Send) (part_allows g part.Send) send c.value c.first;
+      update = expression_fits_so g part.Update ps (in_part g part.Update) (part_allows g part.Update) update d.value d.first;
+      numbers = record {
+        start = expression_fits_so g part.Start ps not_lowest (numbers_allowed g part.Start) start b.value b.first;
+        send = expression_fits_so g part.Send ps not_lowest (numbers_allowed g part.Send) send c.value c.first;
+        update = expression_fits_so g part.Update ps not_lowest (numbers_allowed g part.Update) update d.value d.first;
+      };
     })
+
+-- what stands in place of parameters may stand in every part
+filled_in : (g : GraphData) (p : Part) (ns : List ℤ) (t : ExprTemplate) → list_all (in_part g p) (leaves_of (filled ns t)) ≡ fits (in_part g p) t
+filled_in g p ns t = filled_fits (in_part g p) ns (λ n. number_in_part g p (get_or ns n (pos 0))) t
 
 module _ (g : GraphData) (p : Program) where
   hops_fits : (args : List Arg) → hops_called args ≡ Ok p → IsChecked p g
@@ -76,9 +88,9 @@ module _ (g : GraphData) (p : Program) where
       let a = through (expect (length args == t.parameters) refusal.WrongArguments) (λ _. each (map number_argument args) >>= λ numbers. Ok (filled_program t numbers)) p e in
       let b = through (each (map number_argument args)) (λ numbers. Ok (filled_program t numbers)) p a.rest in
       subst (λ (q : Program). IsChecked q g) (same_value (filled_program t b.value) p b.rest) (record {
-        start = filled_fits g part.Start b.value t.start ∙ h.start;
-        send = filled_fits g part.Send b.value t.send ∙ h.send;
-        update = record { update = filled_fits g part.Update b.value t.update ∙ h.update };
+        start = filled_in g part.Start b.value t.start ∙ h.start;
+        send = filled_in g part.Send b.value t.send ∙ h.send;
+        update = record { update = filled_in g part.Update b.value t.update ∙ h.update };
       })
 
 -- a program that is called is checked against the graph

@@ -1,9 +1,10 @@
 //! The arguments of a call.
 
 ghost use Rattle.std.specs.Prelude.{◌≡◌, map, IfOk};
-ghost use Rattle.vertex_lang.specs.Leaves.{IsChecked};
+ghost use Rattle.vertex_lang.specs.Leaves.{HoldsNumber, IsChecked};
+ghost use Rattle.vertex_lang.specs.Values.{lowest_number};
 ghost use Rattle.gvdl_programs.specs.Judging.{Tells, each};
-ghost use Rattle.gvdl_programs.specs.Calls.{number_argument, weight_of, hops_called, dist_called, written_called, called};
+ghost use Rattle.gvdl_programs.specs.Calls.{HasNoLowest, number_argument, weight_of, hops_called, dist_called, written_called, called};
 ghost use Rattle.gvdl_programs.specs.Fits.{ProgramFits};
 
 use crate::column::int_column;
@@ -90,6 +91,7 @@ pub fn call(alloc: Global, graph: &Graph, program: &Callable, args: &[Arg]) -> R
     requires fits { ProgramFits graph.now program.now }
     ensures told { Tells (called graph.now program.now args.now) result }
     ensures checked { IfOk result (λ p. IsChecked p graph.now) }
+    ensures numbers { HasNoLowest args.now → IfOk result (λ p. HoldsNumber p lowest_number → ⊥) }
 {
     match program {
         Callable::Hops => hops_called(alloc, args),

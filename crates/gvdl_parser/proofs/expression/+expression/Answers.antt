@@ -101,7 +101,7 @@ conditional-returns-in_err-second g c = passed_on _ c.from_residual-in_err-secon
 
 pub conditional-returns : goal.conditional-returns
 unfolding conditional
-conditional-returns g c = rw (c.in_ok-first-2.ensures, c.in_ok-second-2.ensures) ((c.in_ok-word.ensures c.args.levels) ▸ found_before refl c.in_ok-tests.ensures ((c.in_ok-word-2.ensures c.args.levels) ▸ found_before refl c.in_ok-first.ensures ((c.in_ok-word-3.ensures c.args.levels) ▸ mapped_found _ c.in_ok-second.ensures)))
+conditional-returns g c = rw c.in_ok-new.ensures ((c.in_ok-word.ensures c.args.levels) ▸ found_before refl c.in_ok-tests.ensures ((c.in_ok-word-2.ensures c.args.levels) ▸ found_before refl c.in_ok-first.ensures ((c.in_ok-word-3.ensures c.args.levels) ▸ mapped_found _ c.in_ok-second.ensures)))
 
 pub unary-returns-then-levels-eq0 : goal.unary-returns-then-levels-eq0
 unary-returns-then-levels-eq0 g c = let e : next c.args.cursor.now.rest.now ≡ Some (t.Sign s.Minus) = search rules in minus_too_deep c.args.levels _ c.if-levels-eq0.true e
@@ -124,13 +124,13 @@ unary-no_extreme-requires g c = let e : next c.args.cursor.now.rest.now ≡ Some
 pub unary-returns : goal.unary-returns
 unary-returns g c = let n0 : next c.args.cursor.now.rest.now ≢ Some (t.Sign s.Minus) = search rules in let n1 : next c.args.cursor.now.rest.now ≢ Some (t.Sign s.Open) = search rules in let ne : (v : Bool) → next c.args.cursor.now.rest.now ≢ Some (extreme_token v) = (λ v. past _ _ (λ x. c.in_default.ensures.none v (c.kind.ensures ∙ x))) in leaf_reads c.args.levels _ _ _ n0 n1 ne (c.leaf.ensures c.args.levels)
 
-pub product-returns-in_err-first : goal.product-returns-in_err-first
+pub product-returns-in_err-head : goal.product-returns-in_err-head
 unfolding product_of
-product-returns-in_err-first g c = passed_on _ c.from_residual.ensures.1 (first_of_many factor_loop _ product_tree c.args.levels _ _ _ c.in_err-first.ensures)
+product-returns-in_err-head g c = passed_on _ c.from_residual.ensures.1 (first_of_many factor_loop _ product_tree c.args.levels _ _ _ c.in_err-head.ensures)
 
 pub product-more-init : goal.product-more-init
 unfolding product_of
-product-more-init g c = chain_after factor_loop product_tree _ unary_grows c.in_ok-first.ensures c.new-others.ensures
+product-more-init g c = rw c.into_inner-first.ensures (chain_after factor_loop product_tree _ unary_grows c.in_ok-head.ensures c.new-others.ensures)
 
 pub product-returns-in_err-other : goal.product-returns-in_err-other
 unfolding product_of
@@ -138,19 +138,19 @@ product-returns-in_err-other g c = let e : next c.more.cursor.rest.now ≡ Some 
 
 pub product-more-preserved : goal.product-more-preserved
 unfolding product_of
-product-more-preserved g c = let e : next c.more.cursor.rest.now ≡ Some (factor_token c.in-Some.times) = factor_token_at c.in-Some.times _ (sym c.kind.ensures ∙ c.in-Some.ensures.found) in chain_next factor_loop c.more.others _ c.more.invariant (ap after_product e ∙ factor_goes_on c.in-Some.times) (factor_found c.in-Some.times c.args.levels _ _ _ _ e c.skip.ensures c.in_ok-other.ensures) c.in_ok-push.ensures.ok
+product-more-preserved g c = let e : next c.more.cursor.rest.now ≡ Some (factor_token c.in-Some.times) = factor_token_at c.in-Some.times _ (sym c.kind.ensures ∙ c.in-Some.ensures.found) in chain_next factor_loop c.more.others _ c.more.invariant (ap after_product e ∙ factor_goes_on c.in-Some.times) (factor_found c.in-Some.times c.args.levels _ _ _ _ e c.skip.ensures c.in_ok-other.ensures) c.in_ok-push_signed.ensures
 
 pub product-returns : goal.product-returns
 unfolding product_of
 product-returns g c = let ne : (v : Bool) → next c.more.cursor.rest.now ≢ Some (factor_token v) = (λ v. past _ _ (λ x. c.in_default.ensures.none v (c.kind.ensures ∙ x))) in rw c.in_ok-tree.ensures (chain_done factor_loop c.more.invariant (λ m. no_factor m _ ne))
 
-pub sum-returns-in_err-first : goal.sum-returns-in_err-first
+pub sum-returns-in_err-head : goal.sum-returns-in_err-head
 unfolding sum_of
-sum-returns-in_err-first g c = passed_on _ c.from_residual.ensures.1 (first_of_many term_loop _ sum_tree c.args.levels _ _ _ c.in_err-first.ensures)
+sum-returns-in_err-head g c = passed_on _ c.from_residual.ensures.1 (first_of_many term_loop _ sum_tree c.args.levels _ _ _ c.in_err-head.ensures)
 
 pub sum-more-init : goal.sum-more-init
 unfolding sum_of
-sum-more-init g c = chain_after term_loop sum_tree _ product_grows c.in_ok-first.ensures c.new-others.ensures
+sum-more-init g c = rw c.into_inner-first.ensures (chain_after term_loop sum_tree _ product_grows c.in_ok-head.ensures c.new-others.ensures)
 
 pub sum-returns-in_err-other : goal.sum-returns-in_err-other
 unfolding sum_of
@@ -158,7 +158,7 @@ sum-returns-in_err-other g c = let e : next c.more.cursor.rest.now ≡ Some (ter
 
 pub sum-more-preserved : goal.sum-more-preserved
 unfolding sum_of
-sum-more-preserved g c = let e : next c.more.cursor.rest.now ≡ Some (term_token c.in-Some.plus) = term_token_at c.in-Some.plus _ (sym c.kind.ensures ∙ c.in-Some.ensures.found) in chain_next term_loop c.more.others _ c.more.invariant (ap after_sum e ∙ term_goes_on c.in-Some.plus) (term_found c.in-Some.plus c.args.levels _ _ _ _ e c.skip.ensures c.in_ok-other.ensures) c.in_ok-push.ensures.ok
+sum-more-preserved g c = let e : next c.more.cursor.rest.now ≡ Some (term_token c.in-Some.plus) = term_token_at c.in-Some.plus _ (sym c.kind.ensures ∙ c.in-Some.ensures.found) in chain_next term_loop c.more.others _ c.more.invariant (ap after_sum e ∙ term_goes_on c.in-Some.plus) (term_found c.in-Some.plus c.args.levels _ _ _ _ e c.skip.ensures c.in_ok-other.ensures) c.in_ok-push_signed.ensures
 
 pub sum-returns : goal.sum-returns
 unfolding sum_of
@@ -170,7 +170,7 @@ sums-returns-in_err-first g c = passed_on _ c.from_residual.ensures.1 (chained_s
 
 pub sums-more-init : goal.sums-more-init
 unfolding sums_of
-sums-more-init g c = chained_first else_chain else_tree _ c.in_ok-first.ensures (c.in_ok-push.ensures.ok ∙ ap (λ (x : List ExprTree). x ++ c.in_ok-first.first ∷ []) c.new-members.ensures)
+sums-more-init g c = chained_first else_chain else_tree _ c.in_ok-first.ensures (c.in_ok-push_member.ensures ∙ ap (λ (x : List ExprTree). x ++ c.in_ok-first.first ∷ []) c.new-members.ensures)
 
 pub sums-returns-in_err-next : goal.sums-returns-in_err-next
 unfolding sums_of
@@ -178,11 +178,11 @@ sums-returns-in_err-next g c = passed_on _ c.from_residual-in_err-next.ensures.1
 
 pub sums-more-preserved : goal.sums-more-preserved
 unfolding sums_of
-sums-more-preserved g c = chained_next else_chain else_tree c.more.members _ c.more.invariant (search rules) c.skip.ensures c.in_ok-next.ensures c.in_ok-push-2.ensures.ok
+sums-more-preserved g c = chained_next else_chain else_tree c.more.members _ c.more.invariant (search rules) c.skip.ensures c.in_ok-next.ensures c.in_ok-push_member-2.ensures
 
 pub sums-returns : goal.sums-returns
 unfolding sums_of
-sums-returns g c = rw c.else_tree.ensures (chained_done else_chain else_tree c.more.invariant (search rules))
+sums-returns g c = rw c.in_ok-tree.ensures (chained_done else_chain else_tree c.more.invariant (search rules))
 
 pub condition-returns-in_err-first : goal.condition-returns-in_err-first
 unfolding condition_of
@@ -217,7 +217,7 @@ test-returns-in_err-second g c = let e : next c.sum.new.cursor.rest.now ≡ Some
 
 pub test-returns-in-Some : goal.test-returns-in-Some
 unfolding test_of compared_sum nil_sum
-test-returns-in-Some g c = let e : next c.sum.new.cursor.rest.now ≡ Some (cmp_token c.in-Some.cmp) = cmp_token_at c.in-Some.cmp _ (sym c.kind.ensures ∙ c.in-Some.ensures.found) in then_finds (λ n. sum_of (unary n)) (λ n a. Either (compared_sum a (unary n)) (nil_sum a)) after_sum after_sum behind_apart c.args.levels _ _ _ _ _ c.in_ok-first.ensures (left_at refl (λ m. nil_other _ c.in-Some.cmp _ e) (one_found (cmp_token_one c.in-Some.cmp) e c.skip.ensures ▸ mapped_found _ c.in_ok-second.ensures))
+test-returns-in-Some g c = let e : next c.sum.new.cursor.rest.now ≡ Some (cmp_token c.in-Some.cmp) = cmp_token_at c.in-Some.cmp _ (sym c.kind.ensures ∙ c.in-Some.ensures.found) in rw c.compared.ensures (then_finds (λ n. sum_of (unary n)) (λ n a. Either (compared_sum a (unary n)) (nil_sum a)) after_sum after_sum behind_apart c.args.levels _ _ _ _ _ c.in_ok-first.ensures (left_at refl (λ m. nil_other _ c.in-Some.cmp _ e) (one_found (cmp_token_one c.in-Some.cmp) e c.skip.ensures ▸ mapped_found _ c.in_ok-second.ensures)))
 
 pub test-returns-in_err-word : goal.test-returns-in_err-word
 unfolding test_of compared_sum nil_sum
@@ -229,7 +229,7 @@ test-returns-in_err-word-2 g c = let nc : (v : Cmp) → next c.sum.new.cursor.re
 
 pub test-returns : goal.test-returns
 unfolding test_of compared_sum nil_sum
-test-returns g c = let nc : (v : Cmp) → next c.sum.new.cursor.rest.now ≢ Some (cmp_token v) = (λ v. past _ _ (λ x. c.in_default.ensures.none v (c.kind.ensures ∙ x))) in then_finds (λ n. sum_of (unary n)) (λ n a. Either (compared_sum a (unary n)) (nil_sum a)) after_sum after_sum behind_apart c.args.levels _ _ _ _ _ c.in_ok-first.ensures (right_at refl (λ m. compared_other _ (unary m) _ nc) ((c.in_ok-word.ensures c.args.levels) ▸ (c.in_ok-word-2.ensures c.args.levels) ▸ pure_found))
+test-returns g c = let nc : (v : Cmp) → next c.sum.new.cursor.rest.now ≢ Some (cmp_token v) = (λ v. past _ _ (λ x. c.in_default.ensures.none v (c.kind.ensures ∙ x))) in rw c.is_nil.ensures (then_finds (λ n. sum_of (unary n)) (λ n a. Either (compared_sum a (unary n)) (nil_sum a)) after_sum after_sum behind_apart c.args.levels _ _ _ _ _ c.in_ok-first.ensures (right_at refl (λ m. compared_other _ (unary m) _ nc) ((c.in_ok-word.ensures c.args.levels) ▸ (c.in_ok-word-2.ensures c.args.levels) ▸ pure_found)))
 
 pub expression-returns-then-levels-eq0 : goal.expression-returns-then-levels-eq0
 expression-returns-then-levels-eq0 g c = let e : next c.args.cursor.now.rest.now ≡ Some (t.Word w.If) = search rules in if_too_deep c.args.levels _ c.if-levels-eq0.true e

@@ -43,4 +43,4 @@ returns-in_err-sign-2 c = passed_on _ c.from_residual-in_err-sign-2.ensures.1 ((
 
 pub returns : goal.returns
 unfolding program
-returns c = (c.in_ok-name.ensures c.args.levels) ▸ found_before refl (c.in_ok-params.ensures c.args.levels) ((c.in_ok-sign.ensures c.args.levels) ▸ (c.in_ok-along.ensures c.args.levels) ▸ c.in_ok-start.ensures ▸ c.in_ok-send.ensures ▸ (c.in_ok-gather.ensures c.args.levels) ▸ c.in_ok-update.ensures ▸ (c.in_ok-sign-2.ensures c.args.levels) ▸ pure_found)
+returns c = rw c.defined.ensures ((c.in_ok-name.ensures c.args.levels) ▸ found_before refl (c.in_ok-params.ensures c.args.levels) ((c.in_ok-sign.ensures c.args.levels) ▸ (c.in_ok-along.ensures c.args.levels) ▸ c.in_ok-start.ensures ▸ c.in_ok-send.ensures ▸ (c.in_ok-gather.ensures c.args.levels) ▸ c.in_ok-update.ensures ▸ (c.in_ok-sign-2.ensures c.args.levels) ▸ pure_found))

@@ -9,7 +9,7 @@ use Rattle.gvdl_parser.proofs.ExpressionLaws.{value_not}
 use Rattle.gvdl_tokens.specs.declared.word.Word.TheVariants as w
 use Rattle.gvdl_tokens.specs.declared.token.Token.TheVariants as t
 use Rattle.gvdl_tokens.specs.declared.token.Kind.TheVariants as kind
-use Rattle.gvdl_parser.proofs.leaf.leaf.Goals as goal
+use Rattle.gvdl_parser.proofs.leaf.bare_leaf.Goals as goal
 
 pub returns-then-sees_word : goal.returns-then-sees_word
 unfolding leaf number_leaf nil_leaf word_leaf edge_leaf node_leaf param_leaf
