@@ -2,6 +2,7 @@
 use Rattle.std.proofs.Common.{◌≡◌, ◌∙◌, ℕ, List, Option, Some, None, Result, Ok, Err, refl, sym, ap, subst, inl, inr}
 use Rattle.gvdl_tree.specs.declared.script.Script.{Script}
 use Rattle.gvdl_parser.specs.declared.fault.ScriptFault.{ScriptFault}
+use Rattle.surge_cli.specs.declared.script_line.ScriptRefusal.TheVariants as refused
 use Rattle.surge_cli.specs.declared.status.Status.{Status}
 use Rattle.surge_cli.specs.declared.status.Status.TheVariants as status
 use Rattle.surge_cli.specs.declared.words.Task.{Task}
@@ -40,16 +41,18 @@ from_text : (job : Script → Result Job Status) (text : List ℕ) (script : Scr
 from_text job text script the e (inl h) = h.2 ∙ ap job (the.only h.0 h.1)
 from_text job text script the e (inr h) = absurd (the.sound h.0 h.1)
 
-fault_only : (job : Script → Result Job Status) (text : List ℕ) (fault : ScriptFault) → IsTheFault text fault → (e : Expectation) → ExpectsOfText job text e → e ≡ Err (status.Script fault)
+fault_only : (job : Script → Result Job Status) (text : List ℕ) (fault : ScriptFault) → IsTheFault text fault → (e : Expectation) → ExpectsOfText job text e → e ≡ Err (status.Script (refused.Text fault))
 fault_only job text fault the e (inl h) = absurd (the.none h.0 h.1)
-fault_only job text fault the e (inr h) = h.2 ∙ ap (λ (f : ScriptFault). Err (status.Script f)) (the.only h.0 h.1)
+fault_only job text fault the e (inr h) = h.2 ∙ ap (λ (f : ScriptFault). Err (status.Script (refused.Text f))) (the.only h.0 h.1)
 
 pub parse_stops : (job : Script → Result Job Status) (text : List ℕ) (s : Status) → StopsParse text s → IsExpected (ExpectsOfText job text) (Err s)
 parse_stops job text status.Done h = absurd h
 parse_stops job text status.Usage h = absurd h
 parse_stops job text (status.Absent role) h = absurd h
 parse_stops job text (status.Data fault) h = absurd h
-parse_stops job text (status.Script fault) h = inr (record { holds = inr (fault, h.found, refl); only = fault_only job text fault h })
+parse_stops job text (status.Script refused.TooLarge) h = absurd h
+parse_stops job text (status.Script (refused.Statement fault)) h = absurd h
+parse_stops job text (status.Script (refused.Text fault)) h = inr (record { holds = inr (fault, h.found, refl); only = fault_only job text fault h })
 parse_stops job text status.ReadFault h = absurd h
 parse_stops job text status.WriteFault h = absurd h
 parse_stops job text status.NoMemory h = inl tt

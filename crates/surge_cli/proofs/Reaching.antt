@@ -1,15 +1,15 @@
--- A file that is absent, or whose reading failed, is one that was reached.
-use Rattle.std.proofs.Common.{◌≡◌, ◌≤◌, ℕ, List, Option, Result, Ok, Err, sym, subst, inl, inr}
+-- A file that is absent, or whose reading failed, is one that was reached, and so is each that was asked for.
+use Rattle.std.proofs.Common.{◌≡◌, ◌∙◌, ◌≤◌, ℕ, List, Option, Result, Ok, Err, refl, sym, subst, inl, inr}
 use Rattle.std.specs.Prelude.{IfErr, ◌⊎◌}
 use Rattle.gvdl_tree.specs.declared.script.Script.{Script}
 use Rattle.surge_cli.specs.declared.status.FileRole.{FileRole}
 use Rattle.surge_cli.specs.declared.status.FileRole.TheVariants as role
 use Rattle.surge_cli.specs.declared.status.Status.{Status}
 use Rattle.surge_cli.specs.declared.status.Status.TheVariants as status
-use Rattle.surge_cli.specs.FilesState.{FilesState, GoesOn}
+use Rattle.surge_cli.specs.FilesState.{FilesState, GoesOn, AsksNoOther}
 use Rattle.surge_cli.specs.Expected.{Held}
 use Rattle.surge_cli.specs.Reaches.{HasScript, ReachesData, ReachesNamed}
-use Rattle.surge_cli.specs.Causes.{RisesAt, Counts, Causes}
+use Rattle.surge_cli.specs.Causes.{AsksOnly, IsUpTo, UpTo, RisesAt, Counts, Causes}
 use Rattle.surge_cli.specs.Stages.{IsInner, IsFile, RisesBefore, StopsWords}
 use Rattle.surge_cli.proofs.GoingOn.{risen_since}
 
@@ -25,26 +25,64 @@ data_named held file script has role.Script n h = absurd h
 data_named held file script has role.Nodes n h = (script, has, h)
 data_named held file script has role.Edges n h = (script, has, h)
 
+-- ---- what was asked
+
+pub asks_none : (P : FileRole → List ℕ → Type 0) (f : List ℕ → ℕ) → AsksOnly P f f
+asks_none P f = λ name no. refl
+
+pub asks_both : (P : FileRole → List ℕ → Type 0) (f g h : List ℕ → ℕ) → AsksOnly P f g → AsksOnly P g h → AsksOnly P f h
+asks_both P f g h first second = λ name no. second name no ∙ first name no
+
+-- files of one place are files of another
+pub asks_so : (P Q : FileRole → List ℕ → Type 0) (f g : List ℕ → ℕ) → ((r : FileRole) (n : List ℕ) → P r n → Q r n) → AsksOnly P f g → AsksOnly Q f g
+asks_so P Q f g to h = λ name no. h name (λ r is. no r (to r name is))
+
+-- at most the file of this role and name was asked for, which is in its place
+pub asks_file : (P : FileRole → List ℕ → Type 0) (role : FileRole) (name : List ℕ) → P role name → (a b : FilesState) → AsksNoOther name a b → AsksOnly P a.asked b.asked
+asks_file P role name h a b only = λ other no. only other (λ e. no role (subst (λ (x : List ℕ). P role x) (sym e) h))
+
+pub up_to_itself : (r : FileRole) → IsUpTo r r
+up_to_itself role.Script = tt
+up_to_itself role.Nodes = tt
+up_to_itself role.Edges = tt
+
+pub script_first : (r : FileRole) → IsUpTo r role.Script
+script_first role.Script = tt
+script_first role.Nodes = tt
+script_first role.Edges = tt
+
+-- what was asked before stands before each file of the second stage
+abbrev pub StandsBefore : (P Q : FileRole → List ℕ → Type 0) (f g : List ℕ → ℕ) → Type 0
+StandsBefore P Q f g = (r : FileRole) (n : List ℕ) → P r n → AsksOnly (UpTo Q r) f g
+
+pub none_before : (P Q : FileRole → List ℕ → Type 0) (f : List ℕ → ℕ) → StandsBefore P Q f f
+none_before P Q f = λ r n is. asks_none (UpTo Q r) f
+
 -- ---- counts
 
 -- files of one place are files of another, and what rose since a later time rose since an earlier one
-mapped : (P Q : FileRole → List ℕ → Type 0) (role : FileRole) (a b c : List ℕ → ℕ) → ((r : FileRole) (n : List ℕ) → P r n → Q r n) → ((n : List ℕ) → a n ≤ b n) → RisesAt P role b c → RisesAt Q role a c
-mapped P Q role a b c to le h = record { name = h.name; place = to role h.name h.place; risen = risen_since (a h.name) (b h.name) (c h.name) (le h.name) h.risen }
+mapped : (P Q : FileRole → List ℕ → Type 0) (role : FileRole) (a b c f g h : List ℕ → ℕ) → ((r : FileRole) (n : List ℕ) → P r n → Q r n) → ((n : List ℕ) → a n ≤ b n) → StandsBefore P Q f g → RisesAt P role b c g h → RisesAt Q role a c f h
+mapped P Q role a b c f g h to le before is = record {
+  name = is.name;
+  place = to role is.name is.place;
+  risen = risen_since (a is.name) (b is.name) (c is.name) (le is.name) is.risen;
+  last = asks_both (UpTo Q role) f g h (before role is.name is.place) (asks_so (UpTo P role) (UpTo Q role) g h (λ r n up. (up.0, to r n up.1)) is.last);
+}
 
-pub rises_so : (P Q : FileRole → List ℕ → Type 0) (s : Status) (a b c : FilesState) → ((r : FileRole) (n : List ℕ) → P r n → Q r n) → GoesOn a b → RisesBefore P s b c → RisesBefore Q s a c
-rises_so P Q status.Done a b c to on h = tt
-rises_so P Q status.Usage a b c to on h = tt
-rises_so P Q (status.Absent role) a b c to on h = mapped P Q role a.absences b.absences c.absences to on.absences h
-rises_so P Q (status.Data fault) a b c to on h = tt
-rises_so P Q (status.Script fault) a b c to on h = tt
-rises_so P Q status.ReadFault a b c to on h = (h.0, mapped P Q h.0 a.faults b.faults c.faults to on.faults h.1)
-rises_so P Q status.WriteFault a b c to on h = tt
-rises_so P Q status.NoMemory a b c to on h = tt
+pub rises_so : (P Q : FileRole → List ℕ → Type 0) (s : Status) (a b c : FilesState) → ((r : FileRole) (n : List ℕ) → P r n → Q r n) → GoesOn a b → StandsBefore P Q a.asked b.asked → RisesBefore P s b c → RisesBefore Q s a c
+rises_so P Q status.Done a b c to on before h = tt
+rises_so P Q status.Usage a b c to on before h = tt
+rises_so P Q (status.Absent role) a b c to on before h = mapped P Q role a.absences b.absences c.absences a.asked b.asked c.asked to on.absences before h
+rises_so P Q (status.Data fault) a b c to on before h = tt
+rises_so P Q (status.Script fault) a b c to on before h = tt
+rises_so P Q status.ReadFault a b c to on before h = (h.0, mapped P Q h.0 a.faults b.faults c.faults a.asked b.asked c.asked to on.faults before h.1)
+rises_so P Q status.WriteFault a b c to on before h = tt
+rises_so P Q status.NoMemory a b c to on before h = tt
 
 -- the same of what a stage answers
-pub stage_rises : {A : Type 0} (P Q : FileRole → List ℕ → Type 0) (r : Result A Status) (a b c : FilesState) → ((r : FileRole) (n : List ℕ) → P r n → Q r n) → GoesOn a b → IfErr r (λ s. RisesBefore P s b c) → IfErr r (λ s. RisesBefore Q s a c)
-stage_rises P Q (Ok x) a b c to on h = tt
-stage_rises P Q (Err s) a b c to on h = rises_so P Q s a b c to on h
+pub stage_rises : {A : Type 0} (P Q : FileRole → List ℕ → Type 0) (r : Result A Status) (a b c : FilesState) → ((r : FileRole) (n : List ℕ) → P r n → Q r n) → GoesOn a b → StandsBefore P Q a.asked b.asked → IfErr r (λ s. RisesBefore P s b c) → IfErr r (λ s. RisesBefore Q s a c)
+stage_rises P Q (Ok x) a b c to on before h = tt
+stage_rises P Q (Err s) a b c to on before h = rises_so P Q s a b c to on before h
 
 inner_rises : (P : FileRole → List ℕ → Type 0) (s : Status) (a b : FilesState) → IsInner s → RisesBefore P s a b
 inner_rises P status.Done a b h = tt

@@ -11,12 +11,12 @@ use Rattle.graph_loader.specs.declared.fault.DataKind.TheVariants as wrong
 use Rattle.graph_loader.specs.declared.fault.DataFault.{DataFault}
 use Rattle.gvdl_tree.specs.declared.script.Script.{Script}
 use Rattle.gvdl_parser.specs.declared.fault.ScriptFault.{ScriptFault}
-use Rattle.gvdl_parser.specs.declared.fault.ScriptFault.TheVariants as script_fault
 use Rattle.gvdl_parser.specs.Script.{IsScript, IsFirstFault}
 use Rattle.gvdl_check.specs.declared.fault.CheckFault.{CheckFault}
 use Rattle.gvdl_check.specs.declared.fault.CheckFault.TheVariants as check_fault
 use Rattle.gvdl_check.specs.declared.plan.Plan.{Plan}
 use Rattle.gvdl_check.specs.Plans.{plan}
+use Rattle.surge_cli.specs.declared.script_line.ScriptRefusal.TheVariants as refused
 use Rattle.surge_cli.specs.declared.status.FileRole.{FileRole}
 use Rattle.surge_cli.specs.declared.status.FileRole.TheVariants as role
 use Rattle.surge_cli.specs.declared.status.Status.{Status}
@@ -62,7 +62,7 @@ too_large file = record { file = file; row = 0; column = 0; kind = wrong.TooLarg
 
 -- the refusal of a file of more bytes than its limit
 abbrev pub large_of : FileRole → Status
-large_of role.Script = status.Script script_fault.TooLarge
+large_of role.Script = status.Script refused.TooLarge
 large_of role.Nodes = status.Data (too_large file.Nodes)
 large_of role.Edges = status.Data (too_large file.Edges)
 
@@ -84,7 +84,7 @@ loaded (Err fault) = Err (status.Data fault)
 -- the plan of the script over its graph, or its first fault (a plan's definition never speaks of memory)
 abbrev pub planned : Result Plan CheckFault → Result Plan Status
 planned (Ok plan) = Ok plan
-planned (Err (check_fault.Fault fault)) = Err (status.Script fault)
+planned (Err (check_fault.Fault fault)) = Err (status.Script (refused.Statement fault))
 planned (Err check_fault.NoMemory) = Err status.NoMemory
 
 -- the graph that these bytes of a nodes file and the edges file of a script spell
@@ -116,7 +116,7 @@ job_for held task script = do
 -- the text is a script, of which this is to be done, or has a first fault
 abbrev pub ExpectsOfText : (Script → Result Job Status) → List ℕ → Expectation → Type 0
 ExpectsOfText job text e = ((script : Script) × IsScript text script × (e ≡ job script))
-    ⊎ ((fault : ScriptFault) × IsFirstFault text fault × (e ≡ Err (status.Script fault)))
+    ⊎ ((fault : ScriptFault) × IsFirstFault text fault × (e ≡ Err (status.Script (refused.Text fault))))
 
 abbrev pub ExpectsOfFile : (Script → Result Job Status) → Result (List ℕ) Status → Expectation → Type 0
 ExpectsOfFile job (Ok text) e = ExpectsOfText job text e

@@ -3,6 +3,7 @@ use Rattle.std.specs.Prelude.{◌≡◌, ◌⊎◌, ℕ, List, Option, IfSome, R
 use Rattle.gvdl_tree.specs.declared.script.Script.{Script}
 use Rattle.gvdl_parser.specs.declared.fault.ScriptFault.{ScriptFault}
 use Rattle.gvdl_parser.specs.Script.{IsScript, IsFirstFault}
+use Rattle.surge_cli.specs.declared.script_line.ScriptRefusal.TheVariants as refused
 use Rattle.surge_cli.specs.declared.status.FileRole.{FileRole}
 use Rattle.surge_cli.specs.declared.status.FileRole.TheVariants as role
 use Rattle.surge_cli.specs.declared.status.Status.{Status}
@@ -47,10 +48,10 @@ IsInner _ = ⊥
 abbrev pub IsFile : FileRole → List ℕ → FileRole → List ℕ → Type 0
 IsFile role name other other_name = (other ≡ role) × (other_name ≡ name)
 
--- an absence or a read fault comes only where the count of a file in its place rose
+-- an absence or a read fault comes only where the count of a file in its place rose, behind which no other was asked for
 abbrev pub RisesBefore : (FileRole → List ℕ → Type 0) → Status → (old new : FilesState) → Type 0
-RisesBefore InPlace (status.Absent role) old new = RisesAt InPlace role old.absences new.absences
-RisesBefore InPlace status.ReadFault old new = (role : FileRole) × RisesAt InPlace role old.faults new.faults
+RisesBefore InPlace (status.Absent role) old new = RisesAt InPlace role old.absences new.absences old.asked new.asked
+RisesBefore InPlace status.ReadFault old new = (role : FileRole) × RisesAt InPlace role old.faults new.faults old.asked new.asked
 RisesBefore InPlace _ old new = Unit {0}
 
 -- ---- what a stage answers
@@ -92,7 +93,7 @@ pub record IsTheFault (text : List ℕ) (fault : ScriptFault) : Type 0 where
 -- why the reading of a script's text stopped
 abbrev pub StopsParse : List ℕ → Status → Type 0
 StopsParse text status.NoMemory = Unit {0}
-StopsParse text (status.Script fault) = IsTheFault text fault
+StopsParse text (status.Script (refused.Text fault)) = IsTheFault text fault
 StopsParse text _ = ⊥
 
 -- why the reading of the script in the file of this name stopped: no text was fetched, or its reading stopped

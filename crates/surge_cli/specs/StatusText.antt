@@ -8,6 +8,10 @@ use Rattle.graph_loader.specs.declared.fault.DataKind.TheVariants as wrong
 use Rattle.graph_loader.specs.declared.fault.DataFault.{DataFault}
 use Rattle.gvdl_parser.specs.declared.fault.ScriptFault.{ScriptFault}
 use Rattle.gvdl_parser.specs.declared.fault.ScriptFault.TheVariants as faulty
+use Rattle.gvdl_programs.specs.declared.refusal.Refusal.{Refusal}
+use Rattle.gvdl_programs.specs.declared.refusal.Refusal.TheVariants as refusal
+use Rattle.surge_cli.specs.declared.script_line.ScriptRefusal.{ScriptRefusal}
+use Rattle.surge_cli.specs.declared.script_line.ScriptRefusal.TheVariants as refused
 use Rattle.surge_cli.specs.declared.status.FileRole.{FileRole}
 use Rattle.surge_cli.specs.declared.status.FileRole.TheVariants as role
 use Rattle.surge_cli.specs.declared.status.Status.{Status}
@@ -31,6 +35,7 @@ role_text role.Edges = codes "edges"
 abbrev pub file_text : DataFile → List ℕ
 file_text file.Nodes = codes "nodes"
 file_text file.Edges = codes "edges"
+file_text (file.Insert statement) = codes "insert " ++ decimal statement
 
 abbrev pub kind_text : DataKind → List ℕ
 kind_text wrong.NoHeader = codes "NoHeader"
@@ -58,21 +63,29 @@ abbrev pub fault_line : DataFault → List ℕ
 fault_line fault =
     codes "surge: data: " ++ (file_text fault.file ++ (codes " record " ++ (decimal fault.row ++ (codes " column " ++ (decimal fault.column ++ (codes ": " ++ (kind_text fault.kind ++ 10 ∷ [])))))))
 
-abbrev pub script_fault_name : ScriptFault → List ℕ
-script_fault_name faulty.NotUtf8 = codes "NotUtf8"
-script_fault_name (faulty.Syntax line column) = codes "Syntax"
-script_fault_name (faulty.NumberTooLarge line column) = codes "NumberTooLarge"
-script_fault_name (faulty.TooDeep line column) = codes "TooDeep"
-script_fault_name faulty.TooLarge = codes "TooLarge"
-script_fault_name (faulty.UnknownName n) = codes "UnknownName"
-script_fault_name (faulty.RepeatedName n) = codes "RepeatedName"
-script_fault_name (faulty.UnknownProperty n) = codes "UnknownProperty"
-script_fault_name (faulty.WrongType n) = codes "WrongType"
-script_fault_name (faulty.WrongArguments n) = codes "WrongArguments"
-script_fault_name (faulty.TooManyViews n) = codes "TooManyViews"
-script_fault_name (faulty.BadRounds n) = codes "BadRounds"
-script_fault_name (faulty.TooManyKept n) = codes "TooManyKept"
-script_fault_name (faulty.BadSplit n) = codes "BadSplit"
+-- the name of a fault of a script's text
+abbrev pub text_fault_name : ScriptFault → List ℕ
+text_fault_name faulty.NotUtf8 = codes "NotUtf8"
+text_fault_name (faulty.Syntax line column) = codes "Syntax"
+text_fault_name (faulty.NumberTooLarge line column) = codes "NumberTooLarge"
+text_fault_name (faulty.TooDeep line column) = codes "TooDeep"
+
+-- the name of the cause for which a statement is refused
+abbrev pub statement_refusal_name : Refusal → List ℕ
+statement_refusal_name refusal.UnknownName = codes "UnknownName"
+statement_refusal_name refusal.RepeatedName = codes "RepeatedName"
+statement_refusal_name refusal.UnknownProperty = codes "UnknownProperty"
+statement_refusal_name refusal.WrongType = codes "WrongType"
+statement_refusal_name refusal.WrongArguments = codes "WrongArguments"
+statement_refusal_name refusal.TooManyViews = codes "TooManyViews"
+statement_refusal_name refusal.BadRounds = codes "BadRounds"
+statement_refusal_name refusal.TooManyKept = codes "TooManyKept"
+statement_refusal_name refusal.BadSplit = codes "BadSplit"
+
+abbrev pub script_refusal_name : ScriptRefusal → List ℕ
+script_refusal_name refused.TooLarge = codes "TooLarge"
+script_refusal_name (refused.Text fault) = text_fault_name fault
+script_refusal_name (refused.Statement fault) = statement_refusal_name fault.refusal
 
 abbrev pub place_text : (line column : ℕ) → List ℕ
 place_text line column = codes "line " ++ (decimal line ++ (codes " column " ++ (decimal column ++ codes ": ")))
@@ -80,26 +93,22 @@ place_text line column = codes "line " ++ (decimal line ++ (codes " column " ++ 
 abbrev pub statement_text : ℕ → List ℕ
 statement_text n = codes "statement " ++ (decimal n ++ codes ": ")
 
--- where a fault of a script is: a place of its text, a statement, or the text as a whole
-abbrev pub where_text : ScriptFault → List ℕ
-where_text faulty.NotUtf8 = []
-where_text (faulty.Syntax line column) = place_text line column
-where_text (faulty.NumberTooLarge line column) = place_text line column
-where_text (faulty.TooDeep line column) = place_text line column
-where_text faulty.TooLarge = []
-where_text (faulty.UnknownName n) = statement_text n
-where_text (faulty.RepeatedName n) = statement_text n
-where_text (faulty.UnknownProperty n) = statement_text n
-where_text (faulty.WrongType n) = statement_text n
-where_text (faulty.WrongArguments n) = statement_text n
-where_text (faulty.TooManyViews n) = statement_text n
-where_text (faulty.BadRounds n) = statement_text n
-where_text (faulty.TooManyKept n) = statement_text n
-where_text (faulty.BadSplit n) = statement_text n
+-- where a fault of a script's text is: a place, or the text as a whole
+abbrev pub text_fault_place : ScriptFault → List ℕ
+text_fault_place faulty.NotUtf8 = []
+text_fault_place (faulty.Syntax line column) = place_text line column
+text_fault_place (faulty.NumberTooLarge line column) = place_text line column
+text_fault_place (faulty.TooDeep line column) = place_text line column
 
--- where a fault of a script is, and its name
-abbrev pub script_line : ScriptFault → List ℕ
-script_line fault = codes "surge: script: " ++ (where_text fault ++ (script_fault_name fault ++ 10 ∷ []))
+-- where a script is refused: at a place of its text, at a statement, or as a whole
+abbrev pub where_text : ScriptRefusal → List ℕ
+where_text refused.TooLarge = []
+where_text (refused.Text fault) = text_fault_place fault
+where_text (refused.Statement fault) = statement_text fault.statement
+
+-- where a script is refused, and why
+abbrev pub script_line : ScriptRefusal → List ℕ
+script_line why = codes "surge: script: " ++ (where_text why ++ (script_refusal_name why ++ 10 ∷ []))
 
 -- one line, or nothing where the run is done
 abbrev pub status_line : Status → List ℕ
@@ -107,7 +116,7 @@ status_line status.Done = []
 status_line status.Usage = usage_line
 status_line (status.Absent role) = line_of (codes "absent: " ++ role_text role)
 status_line (status.Data fault) = fault_line fault
-status_line (status.Script fault) = script_line fault
+status_line (status.Script why) = script_line why
 status_line status.ReadFault = line_of (codes "read fault")
 status_line status.WriteFault = line_of (codes "write fault")
 status_line status.NoMemory = line_of (codes "out of memory")

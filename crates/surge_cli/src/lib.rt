@@ -9,7 +9,7 @@
 //! each statement, of which the tables are those of the lone runs over the edges of each view (`specs/Output.antt`, and
 //! `Output.antt` of `surge_session`), and the updater was called at most as often as the works of these views say. Every other
 //! status is the one that is expected (`specs/Expected.antt`) or has its cause (`specs/Causes.antt`), that of a file only where
-//! the file was reached (`specs/Reaches.antt`).
+//! the file was reached (`specs/Reaches.antt`), and no other file was asked for.
 #![tactic(auto)]
 
 mod job;
@@ -23,7 +23,10 @@ mod status;
 mod words;
 
 pub use graph_loader::{DataFault, DataFile, DataKind};
+pub use gvdl_check::StatementFault;
 pub use gvdl_parser::ScriptFault;
+pub use gvdl_programs::Refusal;
 pub use named_files::NamedFiles;
 pub use running::{refuse_words, surge};
+pub use script_line::ScriptRefusal;
 pub use status::{FileRole, Status};

@@ -2,7 +2,7 @@
 
 ghost use Rattle.std.specs.Prelude.{◌≡◌, ◌<◌, ◌≤◌, ◌^◌, length, IfOk, IfErr, vec_len};
 ghost use Rattle.surge_outside.specs.Counts.{HasRisen};
-ghost use Rattle.surge_cli.specs.FilesState.{GoesOn};
+ghost use Rattle.surge_cli.specs.FilesState.{GoesOn, AsksNoOther};
 ghost use Rattle.surge_cli.specs.Reading.{IsToldFront};
 ghost use Rattle.surge_cli.specs.ReadingAnswer.{Reads, Takes};
 
@@ -52,6 +52,7 @@ fn take_piece<F: NamedFiles>(
     ensures within { vec_len bytes.new ≤ limit }
     ensures grows { result ≡ Ok Taken.More → vec_len bytes.old < vec_len bytes.new }
     ensures files { GoesOn (F.state files.old) (F.state files.new) }
+    ensures asked { AsksNoOther name.now (F.state files.old) (F.state files.new) }
     ensures absent { result ≡ Ok Taken.Absent → HasRisen ((F.state files.old).absences name.now) ((F.state files.new).absences name.now) }
     ensures failed { result ≡ Err Trouble.Failed → HasRisen ((F.state files.old).faults name.now) ((F.state files.new).faults name.now) }
 {
@@ -81,6 +82,7 @@ pub(crate) fn read_file<F: NamedFiles>(
     requires { limit < 2 ^ 40 }
     ensures answer { IfOk result (λ r. Reads (F.state files.old).held name.now limit r) }
     ensures files { GoesOn (F.state files.old) (F.state files.new) }
+    ensures asked { AsksNoOther name.now (F.state files.old) (F.state files.new) }
     ensures absent { result ≡ Ok Reading.Absent → HasRisen ((F.state files.old).absences name.now) ((F.state files.new).absences name.now) }
     ensures failed { result ≡ Err Trouble.Failed → HasRisen ((F.state files.old).faults name.now) ((F.state files.new).faults name.now) }
 {

@@ -8,7 +8,7 @@ ghost use Rattle.surge_cli.specs.Words.{command_line};
 ghost use Rattle.surge_cli.specs.Expected.{Expectation, Expects, told};
 ghost use Rattle.surge_cli.specs.Headline.{Means};
 ghost use Rattle.surge_cli.specs.Reaches.{Reaches};
-ghost use Rattle.surge_cli.specs.Causes.{OfWords, NamesNone, counts, Causes, AgreesWith, Reports};
+ghost use Rattle.surge_cli.specs.Causes.{OfWords, NamesNone, counts, AsksOnly, Causes, AgreesWith, Reports};
 
 use crate::named_files::NamedFiles;
 use crate::session::do_job;
@@ -31,6 +31,7 @@ fn run<F: NamedFiles, O: Sink, U: Updater>(
     ensures words { OfWords (command_line (map string_bytes words.now)) result }
     ensures unread { NamesNone (command_line (map string_bytes words.now)) → files.new ≡ files.old }
     ensures causes { Causes (Reaches (F.state files.old).held (map string_bytes words.now)) result (counts (F.state files.old) (O.faults out.old)) (counts (F.state files.new) (O.faults out.new)) }
+    ensures asked { AsksOnly (Reaches (F.state files.old).held (map string_bytes words.now)) (F.state files.old).asked (F.state files.new).asked }
 {
     match prepare(alloc, files, words) {
         Ok(job) => match do_job(alloc, &job, out, updater) {
@@ -112,8 +113,12 @@ pub fn surge<F: NamedFiles, O: Sink, E: Sink, U: Updater>(
     ensures unread { NamesNone (command_line (map string_bytes words.now)) → files.new ≡ files.old }
 
     // An absence, a read fault or a write fault comes only where its count rose, and one of a file only where that file was
-    // reached.
+    // reached. Behind that file no other was asked for.
     ensures causes { Causes (Reaches (F.state files.old).held (map string_bytes words.now)) result (counts (F.state files.old) (O.faults out.old)) (counts (F.state files.new) (O.faults out.new)) }
+
+    // Of a name that no file has which was reached, nothing is asked: not the data where the script is absent or refused, nor
+    // the edges where the nodes are absent or too large.
+    ensures asked { AsksOnly (Reaches (F.state files.old).held (map string_bytes words.now)) (F.state files.old).asked (F.state files.new).asked }
 
     // One line on standard error, and none where the run is done.
     ensures line { Reports result (E.written err.old) (E.written err.new) (E.faults err.old) (E.faults err.new) }

@@ -6,23 +6,24 @@ ghost use Rattle.gvdl_check.specs.Fits.{PlanFits};
 ghost use Rattle.gvdl_check.specs.Plans.{plan};
 ghost use Rattle.gvdl_check.specs.Written.{IsWritten};
 ghost use Rattle.sample_data.specs.Sample.{script_text};
-ghost use Rattle.surge_cli.specs.FilesState.{GoesOn};
+ghost use Rattle.surge_cli.specs.FilesState.{GoesOn, AsksNoOther};
 ghost use Rattle.surge_cli.specs.Words.{command_line};
 ghost use Rattle.surge_cli.specs.Expected.{limit_of, too_large, large_of, fetched, loaded, planned, graph_with, graph_for, job_over, job_for, sample_graph, job_sampled, ExpectsOfText, ExpectsOfFile, ExpectsAsked, Expects, told_of, told};
 ghost use Rattle.surge_cli.specs.Headline.{AsksFor};
 ghost use Rattle.surge_cli.specs.Reaches.{IsTheScript, HasScript, ReachesData, ReachesNamed, ReachesAsked, Reaches};
-ghost use Rattle.surge_cli.specs.Causes.{OfWords, NamesNoFile, NamesNone};
+ghost use Rattle.surge_cli.specs.Causes.{OfWords, NamesNoFile, NamesNone, AsksOnly};
 ghost use Rattle.surge_cli.specs.Stages.{IsStop, IsStage, IsInner, IsFile, RisesBefore, IsSaid, IsSaidOf, IsExpected, IsExpectedOf, StopsWords, StopsParse, StopsScript};
 
 use crate::job::Job;
 use crate::named_files::NamedFiles;
 use crate::reading::{Reading, read_file};
+use crate::script_line::ScriptRefusal;
 use crate::status::{FileRole, Status};
 use crate::words::{Asked, CommandLine, Source, Task, command_line};
 use graph_loader::{DataFault, DataFile, DataKind, LoadFault, load};
 use graph_model::Graph;
 use gvdl_check::{CheckFault, Plan, check};
-use gvdl_parser::{ParseFault, ScriptFault, parse};
+use gvdl_parser::{ParseFault, parse};
 use gvdl_tree::Script;
 use sample_data::{edges, nodes, script};
 use std::alloc::Global;
@@ -56,7 +57,7 @@ fn large_of(role: FileRole) -> Status
     ensures inner { IsInner result }
 {
     match role {
-        FileRole::Script => Status::Script(ScriptFault::TooLarge),
+        FileRole::Script => Status::Script(ScriptRefusal::TooLarge),
         FileRole::Nodes => too_large(DataFile::Nodes),
         FileRole::Edges => too_large(DataFile::Edges),
     }
@@ -74,6 +75,7 @@ fn fetch<F: NamedFiles>(
     ensures stage { IfErr result IsStage }
     ensures files { GoesOn (F.state files.old) (F.state files.new) }
     ensures causes { IfErr result (λ s. RisesBefore (IsFile role name.now) s (F.state files.old) (F.state files.new)) }
+    ensures asked { AsksNoOther name.now (F.state files.old) (F.state files.new) }
 {
     match read_file(alloc, files, name, limit_of(role)) {
         Ok(Reading::Bytes(bytes)) => Ok(List::from_vec(bytes)),
@@ -93,7 +95,7 @@ fn parse_script(alloc: Global, text: &[u8]) -> Result<Script, Status>
 {
     match parse(alloc, text) {
         Ok(script) => Ok(script),
-        Err(ParseFault::Fault(fault)) => Err(Status::Script(fault)),
+        Err(ParseFault::Fault(fault)) => Err(Status::Script(ScriptRefusal::Text(fault))),
         Err(ParseFault::NoMemory) => Err(Status::NoMemory),
     }
 }
@@ -117,7 +119,7 @@ fn plan_script(alloc: Global, script: &Script, graph: &Graph) -> Result<Plan, St
 {
     match check(alloc, script, graph) {
         Ok(plan) => Ok(plan),
-        Err(CheckFault::Fault(fault)) => Err(Status::Script(fault)),
+        Err(CheckFault::Fault(fault)) => Err(Status::Script(ScriptRefusal::Statement(fault))),
         Err(CheckFault::NoMemory) => Err(Status::NoMemory),
     }
 }
@@ -133,6 +135,7 @@ fn load_edges<F: NamedFiles>(
     ensures stage { IfErr result IsStage }
     ensures files { GoesOn (F.state files.old) (F.state files.new) }
     ensures causes { IfErr result (λ s. RisesBefore (IsFile FileRole.Edges script.now.edges) s (F.state files.old) (F.state files.new)) }
+    ensures asked { AsksNoOther script.now.edges (F.state files.old) (F.state files.new) }
 {
     match fetch(alloc, files, FileRole::Edges, script.edges.as_str()) {
         Ok(edges) => load_graph(alloc, nodes, edges.as_slice()),
@@ -146,6 +149,7 @@ fn load_data<F: NamedFiles>(alloc: Global, files: &mut F, script: &Script) -> Re
     ensures stage { IfErr result IsStage }
     ensures files { GoesOn (F.state files.old) (F.state files.new) }
     ensures causes { IfErr result (λ s. RisesBefore (ReachesData (F.state files.old).held script.now) s (F.state files.old) (F.state files.new)) }
+    ensures asked { AsksOnly (ReachesData (F.state files.old).held script.now) (F.state files.old).asked (F.state files.new).asked }
 {
     match fetch(alloc, files, FileRole::Nodes, script.nodes.as_str()) {
         Ok(nodes) => load_edges(alloc, files, script, nodes.as_slice()),
@@ -186,6 +190,7 @@ fn job_for<F: NamedFiles>(
     ensures stage { IfErr result IsStage }
     ensures files { GoesOn (F.state files.old) (F.state files.new) }
     ensures causes { IfErr result (λ s. RisesBefore (ReachesData (F.state files.old).held script) s (F.state files.old) (F.state files.new)) }
+    ensures asked { AsksOnly (ReachesData (F.state files.old).held script) (F.state files.old).asked (F.state files.new).asked }
 {
     match load_data(alloc, files, &script) {
         Ok(graph) => job_over(alloc, task, script, graph),
@@ -201,6 +206,7 @@ fn fetch_script<F: NamedFiles>(alloc: Global, files: &mut F, name: &str) -> Resu
     ensures stage { IfErr result IsStage }
     ensures files { GoesOn (F.state files.old) (F.state files.new) }
     ensures causes { IfErr result (λ s. RisesBefore (IsFile FileRole.Script name.now) s (F.state files.old) (F.state files.new)) }
+    ensures asked { AsksNoOther name.now (F.state files.old) (F.state files.new) }
 {
     match fetch(alloc, files, FileRole::Script, name) {
         Ok(text) => parse_script(alloc, text.as_slice()),
@@ -221,6 +227,7 @@ fn job_named<F: NamedFiles>(
     ensures stage { IfErr result IsStage }
     ensures files { GoesOn (F.state files.old) (F.state files.new) }
     ensures causes { IfErr result (λ s. RisesBefore (ReachesNamed (F.state files.old).held name.now) s (F.state files.old) (F.state files.new)) }
+    ensures asked { AsksOnly (ReachesNamed (F.state files.old).held name.now) (F.state files.old).asked (F.state files.new).asked }
 {
     match fetch_script(alloc, files, name) {
         Ok(script) => job_for(alloc, files, task, script),
@@ -290,6 +297,7 @@ fn job_asked<F: NamedFiles>(alloc: Global, files: &mut F, asked: &Asked) -> Resu
     ensures stage { IfErr result IsStage }
     ensures unread { NamesNoFile asked.now.source → files.new ≡ files.old }
     ensures causes { IfErr result (λ s. RisesBefore (ReachesAsked (F.state files.old).held asked.now) s (F.state files.old) (F.state files.new)) }
+    ensures asked { AsksOnly (ReachesAsked (F.state files.old).held asked.now) (F.state files.old).asked (F.state files.new).asked }
 {
     match &asked.source {
         Source::Script(name) => job_named(alloc, files, name.as_str(), asked.task),
@@ -322,6 +330,7 @@ pub(crate) fn prepare<F: NamedFiles>(
     ensures words { IfErr result (OfWords (command_line (map string_bytes words.now))) }
     ensures unread { NamesNone (command_line (map string_bytes words.now)) → files.new ≡ files.old }
     ensures causes { IfErr result (λ s. RisesBefore (Reaches (F.state files.old).held (map string_bytes words.now)) s (F.state files.old) (F.state files.new)) }
+    ensures asked { AsksOnly (Reaches (F.state files.old).held (map string_bytes words.now)) (F.state files.old).asked (F.state files.new).asked }
 {
     match read_asked(alloc, words) {
         Ok(asked) => job_asked(alloc, files, &asked),

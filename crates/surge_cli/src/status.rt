@@ -4,9 +4,8 @@ ghost use Rattle.std.specs.Prelude.{◌≡◌, IfOk, string_bytes};
 ghost use Rattle.std.specs.Cow.{cow_str_bytes};
 ghost use Rattle.surge_cli.specs.StatusText.{status_number, status_line, file_text, kind_text, fault_line};
 
-use crate::script_line::script_line;
+use crate::script_line::{ScriptRefusal, script_line};
 use graph_loader::{DataFault, DataFile, DataKind};
-use gvdl_parser::ScriptFault;
 use std::alloc::Global;
 use std::borrow::CowStr;
 use surge_outside::NoMemory;
@@ -30,8 +29,8 @@ pub enum Status {
     Absent(FileRole),
     /// The data files have this first fault. A file of more than 2^28 bytes is too large, at record 0 and column 0.
     Data(DataFault),
-    /// The script has this first fault, in its text or against its graph. A script of more than 2^20 bytes is too large.
-    Script(ScriptFault),
+    /// The script is refused so.
+    Script(ScriptRefusal),
     /// A file could not be read.
     ReadFault,
     /// The output could not be written.
@@ -40,12 +39,14 @@ pub enum Status {
     NoMemory,
 }
 
-fn file_name(file: DataFile) -> &'static str
-    ensures { result.now ≡ file_text file }
+// The name of a data file in a line.
+fn file_name(alloc: Global, file: DataFile) -> Result<String, NoMemory>
+    ensures { IfOk result (λ name. string_bytes name ≡ file_text file) }
 {
     match file {
-        DataFile::Nodes => "nodes",
-        DataFile::Edges => "edges",
+        DataFile::Nodes => Ok(String::from_str(alloc, "nodes")?),
+        DataFile::Edges => Ok(String::from_str(alloc, "edges")?),
+        DataFile::Insert(statement) => Ok(format!(in alloc; "insert {statement}")?),
     }
 }
 
@@ -72,7 +73,7 @@ fn kind_name(kind: DataKind) -> &'static str
 fn fault_line(alloc: Global, fault: DataFault) -> Result<String, NoMemory>
     ensures { IfOk result (λ line. string_bytes line ≡ fault_line fault) }
 {
-    let file = file_name(fault.file);
+    let file = file_name(alloc, fault.file)?;
     let kind = kind_name(fault.kind);
     let row = fault.row;
     let column = fault.column;

@@ -141,6 +141,7 @@ module _ (e : Engine) (segments : Vec Segment Global) (b : Bool) (later : ℕ) (
     assigned = refl;
     works = λ k. ap (λ (ss : List Segment). get_or (map (λ (s : Segment). s.works) ss) k []) is ∙ works_put v b (segments_in e) k;
     stepped = ap (sum_by (λ (s : Segment). length s.works)) is ∙ stepped_put v b (segments_in e);
+    results = refl;
     spent = refl;
   }
 

@@ -15,7 +15,7 @@ pub same_run : (e : Engine) → IsSameRun e e
 same_run e = record { graph = refl; program = refl; rounds = refl; split = refl }
 
 pub none_assigned : (e : Engine) (n : ℕ) → n ≡ 0 → IsAssigned n e e
-none_assigned e n none = record { run = same_run e; order = refl; assigned = omega (arith, none); works = λ k. refl; stepped = refl; spent = refl }
+none_assigned e n none = record { run = same_run e; order = refl; assigned = omega (arith, none); works = λ k. refl; stepped = refl; results = refl; spent = refl }
 
 pub assigned_then : (a b c : Engine) (n k : ℕ) → IsAssigned n a b → IsAssigned 1 b c → k ≡ n + 1 → IsAssigned k a c
 assigned_then a b c n k first next sum = record {
@@ -29,5 +29,6 @@ assigned_then a b c n k first next sum = record {
   assigned = omega (arith, first.assigned, next.assigned, sum);
   works = λ i. next.works i ∙ first.works i;
   stepped = next.stepped ∙ first.stepped;
+  results = next.results ∙ first.results;
   spent = next.spent ∙ first.spent;
 }

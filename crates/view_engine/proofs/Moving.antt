@@ -1,6 +1,8 @@
 -- The next view of a segment is stepped.
 use Rattle.std.proofs.Common.{◌≡◌, ℕ, zero, suc, ◌+◌, ◌*◌, ◌<◌, ◌≤◌, List, [], ◌∷◌, ◌++◌, length, map, take, get_or, slice_get, set, All, Option, Some, None, refl, sym, ◌∙◌, ap, ap₂, subst, arith, length-append, length-set, Vec}
+use Rattle.std.specs.Prelude.{option_and_then}
 use Rattle.std.specs.List.{sum_by}
+use Rattle.std.proofs.lemmas.List.{map-append}
 use Rattle.std.proofs.lemmas.List.Elements.{All-append}
 use Rattle.std.proofs.lemmas.Option.{slice_get_within, slice_get-get_or}
 use Rattle.std.proofs.Math.Nat.{mul-le-mul}
@@ -260,6 +262,11 @@ module _ (answer : Answer) (m : MatrixData) (e : Engine) (engine : IsEngine e) (
           moved = record {
             run = record { graph = refl; program = refl; rounds = refl; split = refl };
             order = refl;
+            view = given.view;
+            next = ap (option_and_then (λ (s : Segment). slice_get s.views (length s.works))) at ∙ is.view;
+            turned =
+                ap (λ (r : ResultsData). map (λ (h : Held). h.view) r.held) kept
+                ∙ map-append (λ (h : Held). h.view) e.results.held (record { view = given.view; outcome = given.outcome; values = values_after e.results given.before (map pair_of given.change) } ∷ []);
             work = work;
             works =
                 ap (λ (ss : List Segment). get_or (map (λ (s : Segment). s.works) ss) k []) put_in
@@ -294,6 +301,9 @@ moved_then k a b c before after stepped filled = record {
     split = filled.run.split ∙ stepped.moved.run.split;
   };
   order = filled.order ∙ stepped.moved.order;
+  view = stepped.moved.view;
+  next = stepped.moved.next;
+  turned = ap (λ (r : ResultsData). map (λ (h : Held). h.view) r.held) filled.results ∙ stepped.moved.turned;
   work = stepped.moved.work;
   works = filled.works k ∙ stepped.moved.works;
   others = λ i other. filled.works i ∙ stepped.moved.others i other;

@@ -20,6 +20,7 @@ shown_within : (values : ℕ → List Val) (n : ℕ) → ((r k : ℕ) → values
     → (o : Outcome) (last : List Val) → OutcomeIs values n o last → shown o (values n) ≡ last
 shown_within values n rest (outcome.Settled r) last is = rest r n is.0.settled (let low : r < n = is.0.within in omega (arith, low)) ∙ sym is.1
 shown_within values n rest (outcome.After r) last is = absurd is
+shown_within values n rest (outcome.Phases r) last is = absurd is
 shown_within values n rest outcome.Unsettled last is = sym is.1
 
 shown_is : (values : ℕ → List Val) (limit : Rounds) → ((r k : ℕ) → values (r + 1) ≡ values r → r ≤ k → values k ≡ values r)

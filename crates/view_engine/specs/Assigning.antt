@@ -83,6 +83,7 @@ pub record IsAssigned (count : ℕ) (old new : Engine) : Type 0 where
   pub assigned : new.assigned ≡ old.assigned + count
   pub works : (k : ℕ) → works_in new k ≡ works_in old k
   pub stepped : stepped_in new ≡ stepped_in old
+  pub results : new.results ≡ old.results
   pub spent : new.spent ≡ old.spent
 
 -- how many are assigned by now, of so many views
@@ -97,6 +98,7 @@ pub record IsFilled (old new : Engine) : Type 0 where
   pub assigned : new.assigned ≡ filled_to old.split (length old.order) old.assigned
   pub works : (k : ℕ) → works_in new k ≡ works_in old k
   pub stepped : stepped_in new ≡ stepped_in old
+  pub results : new.results ≡ old.results
   pub spent : new.spent ≡ old.spent
 
 -- the next view of this segment was stepped, and no view got a segment

@@ -1,5 +1,5 @@
 -- What an engine holds.
-use Rattle.std.specs.Prelude.{◌≡◌, ◌≢◌, ◌<◌, ◌≤◌, ◌+◌, ◌*◌, ℕ, suc, min, ⊤, List, [], ◌∷◌, ◌++◌, length, map, take, All, slice_get, get_or, ◌==◌, if◌then◌else◌, Option, Some, None}
+use Rattle.std.specs.Prelude.{◌≡◌, ◌≢◌, ◌<◌, ◌≤◌, ◌+◌, ◌*◌, ℕ, suc, min, ⊤, List, [], ◌∷◌, ◌++◌, length, map, take, All, slice_get, get_or, ◌==◌, if◌then◌else◌, Option, Some, None, option_and_then}
 use Rattle.std.specs.List.{sum_by, list_any, position}
 use Rattle.graph_model.specs.declared.number.ViewNo.{ViewNo}
 use Rattle.graph_model.specs.GraphData.{GraphData, AreDistinct}
@@ -150,6 +150,14 @@ pub record IsEngine (e : Engine) : Type 0 where
 abbrev pub works_in : Engine → ℕ → List ℕ
 works_in e k = get_or (map (λ s. s.works) (segments_in e)) k []
 
+-- the views that were stepped, in the order of their turns, in which their answers are kept
+abbrev pub turned_views : Engine → List ViewNo
+turned_views e = map (λ h. h.view) e.results.held
+
+-- the next view of the segment with this number
+abbrev pub next_view : Engine → ℕ → Option ViewNo
+next_view e k = option_and_then (λ s. slice_get s.views (length s.works)) (slice_get (segments_in e) k)
+
 -- it is another state of the same run
 pub record IsSameRun (old new : Engine) : Type 0 where
   pub graph : new.graph ≡ old.graph
@@ -161,6 +169,9 @@ pub record IsSameRun (old new : Engine) : Type 0 where
 pub record HasMoved (k : ℕ) (old new : Engine) (calls_before calls_after : ℕ) : Type 0 where
   pub run : IsSameRun old new
   pub order : new.order ≡ old.order
+  pub view : ViewNo
+  pub next : next_view old k ≡ Some view
+  pub turned : turned_views new ≡ turned_views old ++ (view ∷ [])
   pub work : ℕ
   pub works : works_in new k ≡ works_in old k ++ (work ∷ [])
   pub others : (i : ℕ) → i ≢ k → works_in new i ≡ works_in old i

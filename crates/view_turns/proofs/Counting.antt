@@ -53,7 +53,7 @@ over_works f (s ∷ ss) = omega (arith, over_works f ss, sum_by-cons (λ (t : Se
 
 -- ---- a view more
 
-pub turned : (k : ℕ) (old new : Engine) (before after : ℕ) → HasMoved k old new before after → HasTurned old new before after
+pub turned : (k : ℕ) (old new : Engine) (before after : ℕ) → HasMoved k old new before after → HasTurned k old new before after
 turned k old new before after moved =
     let xs = map (λ s. s.works) (segments_in old) in
     let ys = map (λ s. s.works) (segments_in new) in
@@ -63,8 +63,7 @@ turned k old new before after moved =
     let longer : length (works_in new k) ≡ length (works_in old k) + 1 = ap (λ (ns : List ℕ). length ns) moved.works ∙ length-append (works_in old k) (moved.work ∷ []) in
     let dearer : total (works_in new k) ≡ total (works_in old k) + (0 + moved.work) = ap total moved.works ∙ sum_by-append (λ (n : ℕ). n) (works_in old k) (moved.work ∷ []) in
     record {
-      run = moved.run;
-      order = moved.order;
+      moved = moved;
       stepped = omega (arith, lengths, longer, over_works (λ (ns : List ℕ). length ns) (segments_in old), over_works (λ (ns : List ℕ). length ns) (segments_in new));
       calls = omega (arith, totals, dearer, moved.calls, over_works total (segments_in old), over_works total (segments_in new));
     }

@@ -1,2 +1,3 @@
 pub mod Unfinished
 pub mod Counting
+pub mod Choosing

@@ -1,13 +1,14 @@
 -- The segments that have a view which wasn't stepped.
-use Rattle.std.proofs.Common.{◌≡◌, ◌≢◌, ◌⊎◌, inl, inr, ◌∙◌, ◌+◌, ◌<◌, ◌≤◌, ◌==◌, ℕ, zero, suc, Bool, true, false, List, [], ◌∷◌, ◌++◌, length, take, get_or, All, Some, slice_get, refl, sym, ap, subst, arith}
+use Rattle.std.proofs.Common.{◌≡◌, ◌≢◌, ◌⊎◌, inl, inr, ◌∙◌, ◌+◌, ◌<◌, ◌≤◌, ◌==◌, ℕ, zero, suc, Bool, true, false, List, [], ◌∷◌, ◌++◌, length, take, get_or, All, Option, Some, slice_get, refl, sym, ap, subst, arith}
 use Rattle.std.specs.Prelude.{if◌then◌else◌}
-use Rattle.std.proofs.lemmas.List.{take_more, length-take}
+use Rattle.std.proofs.lemmas.List.{take_more, length-take, get_or_default}
 use Rattle.std.proofs.lemmas.Option.{slice_get_within, get_or_from_slice_get}
 use Rattle.std.proofs.lemmas.Bool.{eqb-false}
 use Rattle.std.proofs.lemmas.Bool.Decides.{eqb_tells}
 use Rattle.view_segment.specs.declared.segment.Segment.{Segment}
 use Rattle.view_segment.specs.Segments.{IsFinished}
-use Rattle.view_turns.specs.Turns.{unfinished_from}
+use Rattle.draws.specs.declared.Draws.{Draws}
+use Rattle.view_turns.specs.Turns.{unfinished_from, chosen}
 
 abbrev pub is_finished : Segment → Bool
 is_finished s = length s.works == length s.views
@@ -118,3 +119,9 @@ chosen_left ss left i j is lt e =
     let same : get_or (unfinished_from 0 ss) i j ≡ j = ap (λ (xs : List ℕ). get_or xs i j) (sym is) ∙ sym e in
     let place : found.place ≡ j = omega (arith, found.number, same) in
     record { segment = found.segment; at = ap (slice_get ss) (sym place) ∙ found.at; left = found.left }
+
+-- it is the one that is turned next
+pub chosen_next : (draws : Option Draws) (left whole : List ℕ) (count i j : ℕ) → left ≡ whole → i < length left → count ≡ length left → i ≡ chosen draws count → j ≡ get_or left i j → j ≡ get_or whole (chosen draws (length whole)) 0
+chosen_next draws left whole count i j is lt many place e =
+    let same : i ≡ chosen draws (length whole) = place ∙ ap (chosen draws) (many ∙ ap (λ (xs : List ℕ). length xs) is) in
+    e ∙ get_or_default left i j 0 lt ∙ ap (λ (xs : List ℕ). get_or xs i 0) is ∙ ap (λ (p : ℕ). get_or whole p 0) same

@@ -3,7 +3,7 @@
 ghost use Rattle.std.specs.Prelude.{◌≡◌, ◌+◌, ◌≤◌, ◌<◌, ◌++◌, ◌∷◌, [], false, length, IfOk, OnOk};
 ghost use Rattle.draws.specs.Draws.{next_state, drawn};
 ghost use Rattle.view_engine.specs.Engines.{IsEngine, Stands, AreFinished, IsSameRun, stepped_in};
-ghost use Rattle.view_turns.specs.Turns.{unfinished, unfinished_from, chosen, after_draw, done, HasTurned};
+ghost use Rattle.view_turns.specs.Turns.{unfinished, unfinished_from, chosen, after_draw, seeded, next_segment, done, HasTurned, IsTurned};
 
 use draws::Draws;
 use std::alloc::Global;
@@ -52,7 +52,17 @@ fn next_place(draws: &mut Option<Draws>, count: u32) -> u32
     }
 }
 
-// Turns a segment that has a view which wasn't stepped, if there is one.
+// The stream of a seed, where turns are drawn.
+fn stream(turns: Option<u64>) -> Option<Draws>
+    ensures { result ≡ seeded turns }
+{
+    match turns {
+        Some(seed) => Some(Draws::new(seed)),
+        None => None,
+    }
+}
+
+// Turns the segment that is chosen of those that have a view which wasn't stepped, if there is one.
 fn turn_next<U: Updater>(
     alloc: Global,
     engine: &mut Engine,
@@ -66,7 +76,8 @@ fn turn_next<U: Updater>(
     ensures engine { OnOk result (IsEngine engine.new) }
     ensures fresh { OnOk result (engine.new.spent ≡ false) }
     ensures stands { OnOk result (Stands U.answer matrix.now engine.new) }
-    ensures moved { result ≡ Ok Turn.Moved → HasTurned engine.old engine.new (U.calls updater.old) (U.calls updater.new) }
+    ensures moved { result ≡ Ok Turn.Moved → HasTurned (next_segment draws.old engine.old) engine.old engine.new (U.calls updater.old) (U.calls updater.new) }
+    ensures draws { result ≡ Ok Turn.Moved → draws.new ≡ after_draw draws.old }
     ensures finished { result ≡ Ok Turn.Finished → AreFinished engine.new × (engine.new ≡ engine.old) × (updater.new ≡ updater.old) }
 {
     let left = unfinished(alloc, engine)?;
@@ -96,9 +107,10 @@ pub fn finish<U: Updater>(
     ensures all { OnOk result (stepped_in engine.new ≡ length engine.new.order) }
     ensures run { OnOk result (IsSameRun engine.old engine.new) }
     ensures order { OnOk result (engine.new.order ≡ engine.old.order) }
+    ensures turns { OnOk result (IsTurned U.answer matrix.now (seeded turns) engine.old engine.new (U.calls updater.old) (U.calls updater.new)) }
     ensures calls { OnOk result (U.calls updater.new + done engine.old ≡ U.calls updater.old + done engine.new) }
 {
-    let mut draws = turns.map(Draws::new);
+    let mut draws = stream(turns);
     for _turn in 0..engine.order().len() {
         match turn_next(alloc, engine, matrix, &mut draws, updater) {
             Ok(Turn::Moved) => {}

@@ -1,4 +1,4 @@
-use Rattle.std.proofs.Common.{arith}
+use Rattle.std.proofs.Common.{refl, arith}
 use Rattle.surge_cli.proofs.Fronts.{none_read}
 use Rattle.surge_cli.proofs.GoingOn.{same_files}
 use Rattle.surge_cli.proofs.reading.read_file.Goals as goal
@@ -8,5 +8,6 @@ pieces-init g c = record {
   room = c.in_ok-piece.ensures.room;
   within = omega (arith, c.new-bytes.ensures.len);
   files = same_files (g.F.NamedFiles.state c.args.files.now);
+  asked = λ other others. refl;
   front = none_read (g.F.NamedFiles.state c.args.files.now).held c.args.name.now c.new-bytes.result.items c.new-bytes.ensures.items;
 }

@@ -7,7 +7,8 @@ use Rattle.surge_cli.specs.Stages.{IsSaidOf}
 use Rattle.surge_cli.specs.Stages.{IsFile}
 use Rattle.surge_cli.proofs.Fetching.{told}
 use Rattle.surge_cli.proofs.Endings.{inner_stages}
-use Rattle.surge_cli.proofs.Reaching.{inner_counts}
+use Rattle.surge_cli.specs.Causes.{UpTo}
+use Rattle.surge_cli.proofs.Reaching.{asks_file, up_to_itself, inner_counts}
 use Rattle.surge_cli.proofs.stages.fetch.Goals as goal
 
 pub returns-in-Ok-Bytes-clause-said : goal.returns-in-Ok-Bytes-clause-said
@@ -30,12 +31,24 @@ pub returns-in-Ok-TooLarge-clause-stage : goal.returns-in-Ok-TooLarge-clause-sta
 returns-in-Ok-TooLarge-clause-stage g c = inner_stages {A = List ℕ} (Err c.large_of.result) c.large_of.ensures.inner
 
 pub returns-in-Ok-Absent-clause-causes : goal.returns-in-Ok-Absent-clause-causes
-returns-in-Ok-Absent-clause-causes g c = record { name = c.args.name.now; place = (refl, refl); risen = c.in-Ok-Absent.ensures.absent (ap Ok c.in-Ok-Absent.field-0-is) }
+returns-in-Ok-Absent-clause-causes g c = record {
+  name = c.args.name.now;
+  place = (refl, refl);
+  risen = c.in-Ok-Absent.ensures.absent (ap Ok c.in-Ok-Absent.field-0-is);
+  last = asks_file (UpTo (IsFile c.args.role c.args.name.now) c.args.role) c.args.role c.args.name.now (up_to_itself c.args.role, (refl, refl)) (g.F.NamedFiles.state c.args.files.now) (g.F.NamedFiles.state c.read_file.new.files) c.read_file.ensures.asked;
+}
 
 pub returns-in-Ok-TooLarge-clause-causes : goal.returns-in-Ok-TooLarge-clause-causes
 returns-in-Ok-TooLarge-clause-causes g c =
     inner_counts {A = List ℕ} (IsFile c.args.role c.args.name.now) (Err c.large_of.result) (g.F.NamedFiles.state c.args.files.now) (g.F.NamedFiles.state c.read_file.new.files) c.large_of.ensures.inner
 
 pub returns-in-Err-Failed-clause-causes : goal.returns-in-Err-Failed-clause-causes
-returns-in-Err-Failed-clause-causes g c =
-    (c.args.role, record { name = c.args.name.now; place = (refl, refl); risen = c.in-Err-Failed.ensures.failed (ap Err c.in-Err-Failed.field-0-is) })
+returns-in-Err-Failed-clause-causes g c = (
+  c.args.role,
+  record {
+    name = c.args.name.now;
+    place = (refl, refl);
+    risen = c.in-Err-Failed.ensures.failed (ap Err c.in-Err-Failed.field-0-is);
+    last = asks_file (UpTo (IsFile c.args.role c.args.name.now) c.args.role) c.args.role c.args.name.now (up_to_itself c.args.role, (refl, refl)) (g.F.NamedFiles.state c.args.files.now) (g.F.NamedFiles.state c.read_file.new.files) c.read_file.ensures.asked;
+  },
+)

@@ -1,11 +1,14 @@
 -- The nodes are read, and then the edges.
-use Rattle.std.proofs.Common.{List, ℕ, Option, Ok, Err, refl, subst}
+use Rattle.std.proofs.Common.{List, ℕ, Option, Ok, Err, refl, sym, subst}
 use Rattle.surge_cli.specs.declared.status.FileRole.TheVariants as role
+use Rattle.surge_cli.specs.declared.status.FileRole.{FileRole}
+use Rattle.surge_cli.specs.FilesState.{AsksNoOther}
+use Rattle.surge_cli.specs.Causes.{AsksOnly, IsUpTo, UpTo}
 use Rattle.surge_cli.specs.Expected.{Held, fetched, graph_with}
 use Rattle.surge_cli.specs.Reaches.{IsFetched, ReachesData}
 use Rattle.surge_cli.specs.Stages.{IsFile, RisesBefore, IsSaidOf}
 use Rattle.surge_cli.proofs.GoingOn.{same_files, both_on}
-use Rattle.surge_cli.proofs.Reaching.{at_file, rises_so, stage_rises}
+use Rattle.surge_cli.proofs.Reaching.{asks_both, asks_file, none_before, at_file, rises_so, stage_rises}
 use Rattle.surge_cli.proofs.Saying.{goes_on, stops}
 use Rattle.surge_cli.proofs.stages.load_data.Goals as goal
 
@@ -29,16 +32,40 @@ returns-in-Ok-clause-files g c = both_on (g.F.NamedFiles.state c.args.files.now)
 
 pub returns-in-Ok-clause-causes : goal.returns-in-Ok-clause-causes
 returns-in-Ok-clause-causes g c =
-    let held = (g.F.NamedFiles.state c.args.files.now).held in
+    let old = g.F.NamedFiles.state c.args.files.now in
+    let between = g.F.NamedFiles.state c.fetch.new.files in
+    let held = old.held in
     let script = c.args.script.now in
+    let asked : AsksNoOther script.nodes old between = subst (λ (name : List ℕ). AsksNoOther name old between) c.as_str.ensures c.fetch.ensures.asked in
     let nodes : IsFetched held role.Nodes script.nodes c.in-Ok.nodes = subst (λ (name : List ℕ). IsFetched held role.Nodes name c.in-Ok.nodes) c.as_str.ensures c.in-Ok.ensures.said in
-    stage_rises (IsFile role.Edges script.edges) (ReachesData held script) c.load_edges.result (g.F.NamedFiles.state c.args.files.now) (g.F.NamedFiles.state c.fetch.new.files) (g.F.NamedFiles.state c.load_edges.new.files)
-    (at_file (ReachesData held script) role.Edges script.edges (c.in-Ok.nodes, nodes, refl)) c.fetch.ensures.files c.load_edges.ensures.causes
+    stage_rises (IsFile role.Edges script.edges) (ReachesData held script) c.load_edges.result old between (g.F.NamedFiles.state c.load_edges.new.files)
+    (at_file (ReachesData held script) role.Edges script.edges (c.in-Ok.nodes, nodes, refl)) c.fetch.ensures.files
+    (λ r n is. asks_file (UpTo (ReachesData held script) r) role.Nodes script.nodes (subst (λ (x : FileRole). IsUpTo x role.Nodes) (sym is.0) tt, refl) old between asked)
+    c.load_edges.ensures.causes
 
 pub returns-in-Err-clause-causes : goal.returns-in-Err-clause-causes
 returns-in-Err-clause-causes g c =
     let old = g.F.NamedFiles.state c.args.files.now in
     let new = g.F.NamedFiles.state c.fetch.new.files in
     let script = c.args.script.now in
-    rises_so (IsFile role.Nodes script.nodes) (ReachesData old.held script) c.in-Err.status old old new (at_file (ReachesData old.held script) role.Nodes script.nodes refl) (same_files old)
+    rises_so (IsFile role.Nodes script.nodes) (ReachesData old.held script) c.in-Err.status old old new (at_file (ReachesData old.held script) role.Nodes script.nodes refl) (same_files old) (none_before (IsFile role.Nodes script.nodes) (ReachesData old.held script) old.asked)
     (subst (λ (name : List ℕ). RisesBefore (IsFile role.Nodes name) c.in-Err.status old new) c.as_str.ensures c.in-Err.ensures.causes)
+
+pub returns-in-Ok-clause-asked : goal.returns-in-Ok-clause-asked
+returns-in-Ok-clause-asked g c =
+    let old = g.F.NamedFiles.state c.args.files.now in
+    let between = g.F.NamedFiles.state c.fetch.new.files in
+    let new = g.F.NamedFiles.state c.load_edges.new.files in
+    let script = c.args.script.now in
+    let reached = ReachesData old.held script in
+    let nodes : IsFetched old.held role.Nodes script.nodes c.in-Ok.nodes = subst (λ (name : List ℕ). IsFetched old.held role.Nodes name c.in-Ok.nodes) c.as_str.ensures c.in-Ok.ensures.said in
+    let first : AsksNoOther script.nodes old between = subst (λ (name : List ℕ). AsksNoOther name old between) c.as_str.ensures c.fetch.ensures.asked in
+    asks_both reached old.asked between.asked new.asked (asks_file reached role.Nodes script.nodes refl old between first)
+    (asks_file reached role.Edges script.edges (c.in-Ok.nodes, nodes, refl) between new c.load_edges.ensures.asked)
+
+pub returns-in-Err-clause-asked : goal.returns-in-Err-clause-asked
+returns-in-Err-clause-asked g c =
+    let old = g.F.NamedFiles.state c.args.files.now in
+    let new = g.F.NamedFiles.state c.fetch.new.files in
+    let script = c.args.script.now in
+    asks_file (ReachesData old.held script) role.Nodes script.nodes refl old new (subst (λ (name : List ℕ). AsksNoOther name old new) c.as_str.ensures c.fetch.ensures.asked)

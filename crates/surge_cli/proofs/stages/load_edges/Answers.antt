@@ -3,6 +3,7 @@ use Rattle.std.proofs.Common.{List, ℕ, Ok, Err, subst}
 use Rattle.graph_loader.specs.DataFiles.{graph_of}
 use Rattle.surge_cli.specs.declared.status.FileRole.TheVariants as role
 use Rattle.surge_cli.specs.Expected.{fetched, loaded}
+use Rattle.surge_cli.specs.FilesState.{AsksNoOther}
 use Rattle.surge_cli.specs.Stages.{IsFile, RisesBefore, IsSaid, IsSaidOf}
 use Rattle.surge_cli.proofs.Endings.{inner_stages}
 use Rattle.surge_cli.proofs.Reaching.{inner_counts}
@@ -32,3 +33,9 @@ returns-in-Ok-clause-causes g c = inner_counts (IsFile role.Edges c.args.script.
 pub returns-in-Err-clause-causes : goal.returns-in-Err-clause-causes
 returns-in-Err-clause-causes g c =
     subst (λ (name : List ℕ). RisesBefore (IsFile role.Edges name) c.in-Err.status (g.F.NamedFiles.state c.args.files.now) (g.F.NamedFiles.state c.fetch.new.files)) c.as_str.ensures c.in-Err.ensures.causes
+
+pub returns-in-Ok-clause-asked : goal.returns-in-Ok-clause-asked
+returns-in-Ok-clause-asked g c = subst (λ (name : List ℕ). AsksNoOther name (g.F.NamedFiles.state c.args.files.now) (g.F.NamedFiles.state c.fetch.new.files)) c.as_str.ensures c.fetch.ensures.asked
+
+pub returns-in-Err-clause-asked : goal.returns-in-Err-clause-asked
+returns-in-Err-clause-asked g c = subst (λ (name : List ℕ). AsksNoOther name (g.F.NamedFiles.state c.args.files.now) (g.F.NamedFiles.state c.fetch.new.files)) c.as_str.ensures c.fetch.ensures.asked

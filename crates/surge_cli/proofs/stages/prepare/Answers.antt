@@ -13,7 +13,7 @@ use Rattle.surge_cli.specs.Causes.{OfWords}
 use Rattle.surge_cli.specs.Stages.{IsStop, IsStage}
 use Rattle.surge_cli.proofs.GoingOn.{same_files}
 use Rattle.surge_cli.proofs.Expecting.{words_go_on, words_stop}
-use Rattle.surge_cli.proofs.Reaching.{words_rise, stage_rises}
+use Rattle.surge_cli.proofs.Reaching.{asks_so, none_before, words_rise, stage_rises}
 use Rattle.surge_cli.proofs.Endings.{asks_for, named_none, stage_words, stage_stops, words_stops, words_told}
 use Rattle.surge_cli.proofs.stages.prepare.Goals as goal
 
@@ -48,7 +48,8 @@ pub returns-in-Ok-clause-causes : goal.returns-in-Ok-clause-causes
 returns-in-Ok-clause-causes g c =
     let old = g.F.NamedFiles.state c.args.files.now in
     let words = map string_bytes c.args.words.now in
-    stage_rises (ReachesAsked old.held c.in-Ok.asked) (Reaches old.held words) c.job_asked.result old old (g.F.NamedFiles.state c.job_asked.new.files) (λ r n h. (c.in-Ok.asked, c.in-Ok.ensures.ok, h)) (same_files old) c.job_asked.ensures.causes
+    stage_rises (ReachesAsked old.held c.in-Ok.asked) (Reaches old.held words) c.job_asked.result old old (g.F.NamedFiles.state c.job_asked.new.files) (λ r n h. (c.in-Ok.asked, c.in-Ok.ensures.ok, h)) (same_files old)
+    (none_before (ReachesAsked old.held c.in-Ok.asked) (Reaches old.held words) old.asked) c.job_asked.ensures.causes
 
 pub returns-in-Err-clause-said : goal.returns-in-Err-clause-said
 returns-in-Err-clause-said g c = words_stop (told (g.F.NamedFiles.state c.args.files.now).held (map string_bytes c.args.words.now)) (map string_bytes c.args.words.now) c.in-Err.status c.in-Err.ensures.err
@@ -64,3 +65,10 @@ returns-in-Err-clause-causes g c =
     let old = g.F.NamedFiles.state c.args.files.now in
     let words = map string_bytes c.args.words.now in
     words_rise (Reaches old.held words) words c.in-Err.status old old c.in-Err.ensures.err
+
+pub returns-in-Ok-clause-asked : goal.returns-in-Ok-clause-asked
+returns-in-Ok-clause-asked g c =
+    let old = g.F.NamedFiles.state c.args.files.now in
+    let new = g.F.NamedFiles.state c.job_asked.new.files in
+    let words = map string_bytes c.args.words.now in
+    asks_so (ReachesAsked old.held c.in-Ok.asked) (Reaches old.held words) old.asked new.asked (λ r n h. (c.in-Ok.asked, c.in-Ok.ensures.ok, h)) c.job_asked.ensures.asked

@@ -1,8 +1,9 @@
--- The segment that is chosen has a view left.
-use Rattle.std.proofs.Common.{◌≡◌, ◌∙◌, ◌<◌, ◌≤◌, length, refl, sym, arith, Some}
+-- The segment that is chosen has a view left, and is turned.
+use Rattle.std.proofs.Common.{◌≡◌, ◌∙◌, ◌<◌, ◌≤◌, ℕ, length, refl, sym, subst, arith, Some}
 use Rattle.std.proofs.lemmas.Option.{slice_get_within}
 use Rattle.view_engine.specs.Engines.{segments_in}
-use Rattle.view_turns.proofs.Unfinished.{zero_of, finished_if_none, few_left, chosen_left}
+use Rattle.view_turns.specs.Turns.{unfinished, next_segment, HasTurned}
+use Rattle.view_turns.proofs.Unfinished.{zero_of, finished_if_none, few_left, chosen_left, chosen_next}
 use Rattle.view_turns.proofs.Counting.{turned}
 use Rattle.view_turns.proofs.turning.turn_next.Goals as goal
 
@@ -26,7 +27,13 @@ turn-requires-clause-segment g c =
 pub returns-clause-moved : goal.returns-clause-moved
 returns-clause-moved g c = λ e.
     let moved = c.turn.ensures.moved e in
-    turned c.index.result.now c.args.engine.now c.turn.new.self (g.U.Counted.calls c.args.updater.now) (g.U.Counted.calls c.turn.new.updater) moved.1
+    let left = c.in_ok-left.left.items in
+    let many : c.len.result ≡ length left = omega (arith, c.len.ensures) in
+    let lt : c.next_place-place.result < length left = omega (arith, c.next_place-place.ensures.within, many) in
+    let is : c.index.result.now ≡ next_segment c.args.draws.now c.args.engine.now =
+    chosen_next c.args.draws.now left (unfinished c.args.engine.now) c.len.result c.next_place-place.result c.index.result.now c.in_ok-left.ensures lt many c.next_place-place.ensures.place c.index.ensures in
+    subst (λ (k : ℕ). HasTurned k c.args.engine.now c.turn.new.self (g.U.Counted.calls c.args.updater.now) (g.U.Counted.calls c.turn.new.updater)) is
+    (turned c.index.result.now c.args.engine.now c.turn.new.self (g.U.Counted.calls c.args.updater.now) (g.U.Counted.calls c.turn.new.updater) moved.1)
 
 pub returns-clause-finished : goal.returns-clause-finished
 returns-clause-finished g c = λ e.
