@@ -1,0 +1,9 @@
+pub mod Ordered
+pub mod Stepped
+pub mod Places
+pub mod Pairs
+pub mod Turned
+pub mod Applied
+pub mod Rows
+pub mod Tabled
+pub mod Walks

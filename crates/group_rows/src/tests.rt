@@ -1,0 +1,6 @@
+//! The cases, and what they share.
+
+mod cases;
+mod courses;
+mod drawn;
+mod texts;
