@@ -9,9 +9,6 @@
 ghost use Rattle.std.specs.Prelude.{◌≡◌, ◌<◌, ◌≤◌};
 ghost use Rattle.draws.specs.Draws.{next_state, drawn};
 
-#[cfg(test)]
-mod tests;
-
 const MULTIPLIER: u64 = 6_364_136_223_846_793_005;
 
 const INCREMENT: u64 = 1_442_695_040_888_963_407;

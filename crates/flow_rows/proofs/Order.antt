@@ -1,5 +1,5 @@
 -- Where the least due time is not below a time, no other due time is at or below it.
-use Rattle.std.proofs.Common.{◌≡◌, ◌∙◌, false, true, Bool, IsTrue, List, [], ◌∷◌, ◌++◌, Ordering, refl, ap}
+use Rattle.std.proofs.Common.{◌≡◌, ◌∙◌, false, true, Bool, IsTrue, List, [], ◌∷◌, Ordering, refl, ap}
 use Rattle.std.specs.Prelude.{not, ◌&&◌}
 use Rattle.std.specs.declared.cmp.Ordering.TheVariants.{Less, Equal, Greater}
 use Rattle.std.specs.Ordering.{is_gt, is_ge, ordering_reverse}

@@ -1,10 +1,11 @@
-//! Operators driven at random times, in any order that they allow, against their functions computed anew from all that was
-//! fed.
+//! Operators driven at times that are only known when they come, for rooms of tests.
 //!
-//! It stands on the operators, and nothing stands on it. A run draws times, batches and seals, steps an operator where its
-//! contract allows that and where it is due (`drive`, `random`), and keeps what was fed and made (`history`). It does so at
-//! any times that are drawn from a grid (`grid`): versions, and pairs in pairs. The steps that it takes are proved to be
-//! allowed; that what was made is the function of what was fed is tested.
+//! It stands on `flow_core`, and `random_rows` and `vertex_rows` stand on it. A step or a seal is taken where the contract of
+//! an operator allows it ([`take_step`], [`take_seal`]), and one behind the other at times that are given ([`driven`]). A
+//! run ([`run`]) draws times, batches and seals, steps an operator
+//! where that is allowed and where it is due, and keeps what was fed and made (`history`), at any times that are drawn
+//! from a grid (`grid`): versions, and pairs in pairs. It compares what was made with a function computed anew from all that
+//! was fed ([`Reference`]). The steps that are taken are proved to be allowed; that what was made is right is tested above.
 #![tactic(auto)]
 
 mod drive;
@@ -12,10 +13,7 @@ mod grid;
 mod history;
 mod random;
 
-pub use drive::{may_step, take_seal, take_step};
+pub use drive::{Fed, driven, may_step, take_seal, take_step};
 pub use grid::Grid;
 pub use history::{Draws, Reference, Timed, drawn, note, same, sum_to};
 pub use random::{History, run};
-
-#[cfg(test)]
-mod tests;

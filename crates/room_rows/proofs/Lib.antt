@@ -1,4 +1,5 @@
 mod Distinct
+mod Fitting
 mod Programs
 mod Reading
 mod SmallGraphs

@@ -3,8 +3,9 @@
 //! It stands on the rooms whose tests these are, and nothing stands on it: so none of them is proved a second time with its
 //! tests. They go through small types, files and sinks, those of the real system too (`surge_outside`); what the readers of
 //! small graphs answer, and edges that are added (`graph_model`); lists that are one multiset (`multisets`); the work of
-//! views of two edges (`lone_work`); that the built-in programs are made (`graph_algos`); small walks (`walk_theory`);
-//! where a run starts anew (`segment_split`); times and their laws (`lattice_time`); weights and batches (`weighted`); and
+//! views of two edges (`lone_work`); that the built-in programs are made (`graph_algos`); updates that are
+//! made at once, and others (`quick_updates`); small walks (`walk_theory`); the first numbers of a seed (`draws`); where a run
+//! starts anew (`segment_split`); times and their laws (`lattice_time`); weights and batches (`weighted`); and
 //! the text of tables, and answers of views that stand behind one another (`result_tables`).
 #![tactic(auto)]
 

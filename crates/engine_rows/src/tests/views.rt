@@ -76,6 +76,7 @@ fn push_table(alloc: Global, text: &mut String, table: &Table) -> Result<(), All
     match table.outcome {
         Outcome::Settled(round) => text.push_str(format!(in alloc; "settled {round}:")?.as_str())?,
         Outcome::After(round) => text.push_str(format!(in alloc; "after {round}:")?.as_str())?,
+        Outcome::Phases(phase) => text.push_str(format!(in alloc; "phases {phase}:")?.as_str())?,
         Outcome::Unsettled => text.push_str("unsettled:")?,
     }
     for value in table.values.as_slice() {

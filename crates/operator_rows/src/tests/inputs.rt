@@ -39,3 +39,20 @@ pub(crate) fn once_each<R: Record>(alloc: Global, records: &[R]) -> Result<Batch
     }
     Batch::from_entries(entries)
 }
+
+/// Whether a batch has these entries.
+pub(crate) fn has<R: Record>(batch: &Batch<R>, entries: &[(R, Weight)]) -> bool {
+    batch.as_slice() == entries
+}
+
+/// Whether two steps made these entries.
+pub(crate) fn have<R: Record>(
+    made: &Option<(Batch<R>, Batch<R>)>,
+    early: &[(R, Weight)],
+    late: &[(R, Weight)],
+) -> bool {
+    match made {
+        Some((first, second)) => has(first, early) && has(second, late),
+        None => false,
+    }
+}

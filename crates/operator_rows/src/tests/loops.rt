@@ -4,7 +4,7 @@ ghost use Rattle.std.specs.Prelude.{◌≡◌, ◌≤◌, false, IsTrue};
 ghost use Rattle.flow_core.specs.Runs.{IsFresh};
 ghost use Rattle.operator_rows.specs.Rows.{next_or_same, next_up_to_five};
 
-use crate::tests::inputs::once_each;
+use crate::tests::inputs::{has, once_each};
 use diff_iterate::{Iterate, LoopInput};
 use flow_core::{Each, Map, NoCalls, Operator};
 use lattice_time::{Pair, Position, Round, Time, Version};
@@ -117,83 +117,91 @@ fn goes(round: u32, x: u32) -> ((Round, u32), Weight) {
     ((Round(round), x), Weight(u64::MAX))
 }
 
-#[test]
-fn two_rounds_and_a_seal(rt: HostRuntime) -> Result<(), Fail> {
-    let alloc = rt.alloc();
-    let delta = once_each(alloc, &[LoopInput::Moving(0)])?;
-    let mut steps = looped::<Next, Position>(alloc, Next, 2);
+/// Whether a loop that starts with one number makes this, where it is stepped once and sealed.
+fn makes<E: Each<LoopInput<u32, u32>, u32> + Drop>(
+    alloc: Global,
+    each: E,
+    rounds: u32,
+    start: u32,
+    wanted: &[((Round, u32), Weight)],
+) -> Result<bool, NoMemory>
+    requires some { 1 ≤ rounds }
+    requires few { rounds ≤ 1000000 }
+{
+    let delta = once_each(alloc, &[LoopInput::Moving(start)])?;
+    let mut steps = looped::<E, Position>(alloc, each, rounds);
     let made = step_and_seal(&mut steps, Position(0), &delta, Position(1), &mut NoCalls)?;
     match made {
-        Some(made) => {
-            let expected = [
-                comes(0, 0),
-                goes(1, 0),
-                comes(1, 1),
-                goes(2, 1),
-                comes(2, 2),
-            ];
-            assert_eq!(rt; made.as_slice(), expected.as_slice());
-        }
-        None => assert!(rt; false, "nothing is due to a loop of a map"),
+        Some(made) => Ok(has(&made, wanted) && !steps.is_spent()),
+        None => Ok(false),
     }
-    assert!(rt; !steps.is_spent());
-    Ok(())
 }
 
 #[test]
-fn times_that_are_not_comparable(rt: HostRuntime) -> Result<(), Fail> {
-    let alloc = rt.alloc();
-    let moving = once_each(alloc, &[LoopInput::Moving(0)])?;
-    let fixed = once_each(alloc, &[LoopInput::Fixed(5)])?;
-    let nothing = Batch::empty(alloc);
-    let mut steps = looped::<Next, Pair<Version, Position>>(alloc, Next, 1);
-    let made = three_steps(
-        &mut steps,
-        (
-            Pair {
-                outer: Version(0),
-                inner: Position(1),
-            },
-            Pair {
-                outer: Version(1),
-                inner: Position(0),
-            },
-            Pair {
-                outer: Version(1),
-                inner: Position(1),
-            },
-        ),
-        (&moving, &fixed, &nothing),
-        &mut NoCalls,
-    )?;
-    match made {
-        Some((first, second, third)) => {
-            let expected = [comes(0, 0), goes(1, 0), comes(1, 1)];
-            assert_eq!(rt; first.as_slice(), expected.as_slice());
-            assert_eq!(rt; second.as_slice(), [comes(1, 5)].as_slice());
-            assert!(rt; third.is_empty());
-        }
-        None => assert!(rt; false, "nothing is due to a loop of a map"),
-    }
+fn two_rounds_and_a_seal(rt: HostRuntime) -> Result<(), Fail> {
+    let wanted = [
+        comes(0, 0),
+        goes(1, 0),
+        comes(1, 1),
+        goes(2, 1),
+        comes(2, 2),
+    ];
+    assert!(rt; makes(rt.alloc(), Next, 2, 0, &wanted)?);
     Ok(())
 }
 
 #[test]
 fn rounds_after_the_last_change_cost_nothing(rt: HostRuntime) -> Result<(), Fail> {
-    let alloc = rt.alloc();
-    let delta = once_each(alloc, &[LoopInput::Moving(3)])?;
-    let mut steps = looped::<UpToFive, Position>(alloc, UpToFive, 1_000_000);
-    let made = step_and_seal(&mut steps, Position(0), &delta, Position(1), &mut NoCalls)?;
-    match made {
-        Some(made) => {
-            let expected = [
-                comes(0, 3),
-                goes(1, 3),
-                comes(1, 4),
-                goes(2, 4),
-                comes(2, 5),
-            ];
-            assert_eq!(rt; made.as_slice(), expected.as_slice());
+    let wanted = [
+        comes(0, 3),
+        goes(1, 3),
+        comes(1, 4),
+        goes(2, 4),
+        comes(2, 5),
+    ];
+    assert!(rt; makes(rt.alloc(), UpToFive, 1_000_000, 3, &wanted)?);
+    Ok(())
+}
+
+/// A time of an outer dataflow that has two counts.
+type Outer = Pair<Version, Position>;
+
+/// What steps of one number each make.
+type Made = Batch<(Round, u32)>;
+
+/// A moving number at (0, 1), a fixed one at (1, 0), and nothing at (1, 1).
+fn at_apart_times(alloc: Global) -> Result<Option<(Made, Made, Made)>, NoMemory> {
+    let moving = once_each(alloc, &[LoopInput::Moving(0)])?;
+    let fixed = once_each(alloc, &[LoopInput::Fixed(5)])?;
+    let nothing = Batch::empty(alloc);
+    let mut steps = looped::<Next, Outer>(alloc, Next, 1);
+    let first = Pair {
+        outer: Version(0),
+        inner: Position(1),
+    };
+    let second = Pair {
+        outer: Version(1),
+        inner: Position(0),
+    };
+    let third = Pair {
+        outer: Version(1),
+        inner: Position(1),
+    };
+    three_steps(
+        &mut steps,
+        (first, second, third),
+        (&moving, &fixed, &nothing),
+        &mut NoCalls,
+    )
+}
+
+#[test]
+fn times_that_are_not_comparable(rt: HostRuntime) -> Result<(), Fail> {
+    match at_apart_times(rt.alloc())? {
+        Some((first, second, third)) => {
+            assert!(rt; has(&first, &[comes(0, 0), goes(1, 0), comes(1, 1)]));
+            assert!(rt; has(&second, &[comes(1, 5)]));
+            assert!(rt; third.is_empty());
         }
         None => assert!(rt; false, "nothing is due to a loop of a map"),
     }

@@ -3,7 +3,7 @@
 ghost use Rattle.std.specs.Prelude.{◌≡◌, ℕ, ◌+◌, ◌%◌, ◌^◌, ◌==◌, ◌∷◌, [], OnOk};
 ghost use Rattle.flow_core.specs.Runs.{Run, Answers, IsFresh};
 
-use crate::tests::inputs::{Nested, at, once_each};
+use crate::tests::inputs::{Nested, at, has, have, once_each};
 use crate::tests::steps::{first_step, in_turn};
 use flow_core::{
     Bypass, Chain, Concat, Each, Expand, Filter, FlatMap, Fork, Keep, Map, NoCalls, Operator,
@@ -188,80 +188,87 @@ fn bypassed<T: Time, U: Counted>(
     first_step(&mut flow, t, delta, updater)
 }
 
+// ---- one step, at any time
+
+/// Whether the chain makes 2 of 1 and 2.
+fn chain_answers<T: Time>(alloc: Global, t: T) -> Result<bool, NoMemory> {
+    let delta = once_each(alloc, &[1, 2])?;
+    let made = chained(alloc, t, &delta, &mut NoCalls)?;
+    Ok(has(&made, &[(2, Weight(1))]))
+}
+
+/// Whether it does of 1 on the left side and 2 on the right side.
+fn concat_answers<T: Time>(alloc: Global, t: T) -> Result<bool, NoMemory> {
+    let delta = once_each(alloc, &[Side::Left(1), Side::Right(2)])?;
+    let made = concatenated(alloc, t, &delta, &mut NoCalls)?;
+    Ok(has(&made, &[(2, Weight(1))]))
+}
+
+/// Whether the fork makes 3 on the left side and 2 on the right side of 2.
+fn fork_answers<T: Time>(alloc: Global, t: T) -> Result<bool, NoMemory> {
+    let delta = once_each(alloc, &[2])?;
+    let made = forked(alloc, t, &delta, &mut NoCalls)?;
+    Ok(has(
+        &made,
+        &[(Side::Left(3), Weight(1)), (Side::Right(2), Weight(1))],
+    ))
+}
+
 #[test]
 fn chain_of_map_and_filter(rt: HostRuntime) -> Result<(), Fail> {
-    let alloc = rt.alloc();
-    let delta = once_each(alloc, &[1, 2])?;
-    let made = chained(alloc, Position(0), &delta, &mut NoCalls)?;
-    assert_eq!(rt; made.as_slice(), [(2, Weight(1))].as_slice());
-    let made = chained(alloc, at(0, 0), &delta, &mut NoCalls)?;
-    assert_eq!(rt; made.as_slice(), [(2, Weight(1))].as_slice());
+    assert!(rt; chain_answers(rt.alloc(), Position(0))?);
+    assert!(rt; chain_answers(rt.alloc(), at(0, 0))?);
     Ok(())
 }
 
 #[test]
 fn chain_after_concat(rt: HostRuntime) -> Result<(), Fail> {
-    let alloc = rt.alloc();
-    let delta = once_each(alloc, &[Side::Left(1), Side::Right(2)])?;
-    let made = concatenated(alloc, Position(0), &delta, &mut NoCalls)?;
-    assert_eq!(rt; made.as_slice(), [(2, Weight(1))].as_slice());
-    let made = concatenated(alloc, at(0, 0), &delta, &mut NoCalls)?;
-    assert_eq!(rt; made.as_slice(), [(2, Weight(1))].as_slice());
+    assert!(rt; concat_answers(rt.alloc(), Position(0))?);
+    assert!(rt; concat_answers(rt.alloc(), at(0, 0))?);
     Ok(())
 }
 
 #[test]
 fn fork_of_map_and_filter(rt: HostRuntime) -> Result<(), Fail> {
-    let alloc = rt.alloc();
-    let delta = once_each(alloc, &[2])?;
-    let sides = [(Side::Left(3), Weight(1)), (Side::Right(2), Weight(1))];
-    let made = forked(alloc, Position(0), &delta, &mut NoCalls)?;
-    assert_eq!(rt; made.as_slice(), sides.as_slice());
-    let made = forked(alloc, at(0, 0), &delta, &mut NoCalls)?;
-    assert_eq!(rt; made.as_slice(), sides.as_slice());
+    assert!(rt; fork_answers(rt.alloc(), Position(0))?);
+    assert!(rt; fork_answers(rt.alloc(), at(0, 0))?);
     Ok(())
 }
 
 #[test]
 fn fork_joined_again(rt: HostRuntime) -> Result<(), Fail> {
-    let alloc = rt.alloc();
-    let delta = once_each(alloc, &[3, 4])?;
-    let made = rejoined(alloc, at(1, 2), &delta, &mut NoCalls)?;
-    assert_eq!(rt;
-        made.as_slice(),
-        [(4, Weight(2)), (5, Weight(1))].as_slice()
-    );
+    let delta = once_each(rt.alloc(), &[3, 4])?;
+    let made = rejoined(rt.alloc(), at(1, 2), &delta, &mut NoCalls)?;
+    assert!(rt; has(&made, &[(4, Weight(2)), (5, Weight(1))]));
     Ok(())
 }
 
 #[test]
 fn flat_map_that_is_quiet(rt: HostRuntime) -> Result<(), Fail> {
-    let alloc = rt.alloc();
-    let delta = once_each(alloc, &[(1, 2), (2, 3), (3, 3)])?;
-    let made = degrees(alloc, at(1, 2), &delta, &mut NoCalls)?;
-    let ends = [(1, Weight(1)), (2, Weight(2)), (3, Weight(3))];
-    assert_eq!(rt; made.as_slice(), ends.as_slice());
+    let delta = once_each(rt.alloc(), &[(1, 2), (2, 3), (3, 3)])?;
+    let made = degrees(rt.alloc(), at(1, 2), &delta, &mut NoCalls)?;
+    assert!(rt; has(&made, &[(1, Weight(1)), (2, Weight(2)), (3, Weight(3))]));
     Ok(())
 }
 
 #[test]
 fn bypass_of_a_map(rt: HostRuntime) -> Result<(), Fail> {
-    let alloc = rt.alloc();
-    let delta = once_each(alloc, &[(1, 2), (4, 1)])?;
-    let made = bypassed(alloc, at(1, 2), &delta, &mut NoCalls)?;
-    let want = [
+    let delta = once_each(rt.alloc(), &[(1, 2), (4, 1)])?;
+    let made = bypassed(rt.alloc(), at(1, 2), &delta, &mut NoCalls)?;
+    let wanted = [
         (1, Weight(2)),
         (2, Weight(2)),
         (4, Weight(1)),
         (5, Weight(1)),
     ];
-    assert_eq!(rt; made.as_slice(), want.as_slice());
+    assert!(rt; has(&made, &wanted));
     Ok(())
 }
 
-#[test]
-fn chain_steps_with_a_seal_between(rt: HostRuntime) -> Result<(), Fail> {
-    let alloc = rt.alloc();
+// ---- two steps
+
+/// What two steps made, of 1 and 2 and of 3 behind a seal, and whether the chain and its parts are live then.
+fn chain_in_turn(alloc: Global) -> Result<(Option<(Batch<u32>, Batch<u32>)>, bool), NoMemory> {
     let delta = once_each(alloc, &[1, 2])?;
     let more = once_each(alloc, &[3])?;
     let map: Map<Next, u32, u32, Position, NoCalls> = Map::new(alloc, Next);
@@ -275,23 +282,22 @@ fn chain_steps_with_a_seal_between(rt: HostRuntime) -> Result<(), Fail> {
         &more,
         &mut NoCalls,
     )?;
-    match made {
-        Some((early, late)) => {
-            assert_eq!(rt; early.as_slice(), [(2, Weight(1))].as_slice());
-            assert_eq!(rt; late.as_slice(), [(4, Weight(1))].as_slice());
-        }
-        None => assert!(rt; false, "nothing is due to a map or a filter"),
-    }
     let whole = is_live::<Position, NoCalls, NextEven<Position, NoCalls>>(&chain);
     let first = is_live::<Position, NoCalls, NextMap<Position>>(chain.first());
     let second = is_live::<Position, NoCalls, EvenFilter<Position>>(chain.second());
-    assert!(rt; whole && first && second);
-    Ok(())
+    Ok((made, whole && first && second))
 }
 
 #[test]
-fn fork_steps_with_a_seal_between(rt: HostRuntime) -> Result<(), Fail> {
-    let alloc = rt.alloc();
+fn chain_steps_with_a_seal_between(rt: HostRuntime) -> Result<(), Fail> {
+    let (made, are_live) = chain_in_turn(rt.alloc())?;
+    assert!(rt; have(&made, &[(2, Weight(1))], &[(4, Weight(1))]));
+    assert!(rt; are_live);
+    Ok(())
+}
+
+/// What two steps made, of 1 and 2 and of 4 behind a seal, and whether both sides of the fork are live then.
+fn fork_in_turn(alloc: Global) -> Result<(Option<(Batch<u32>, Batch<u32>)>, bool), NoMemory> {
     let delta = once_each(alloc, &[1, 2])?;
     let more = once_each(alloc, &[4])?;
     let concat: Concat<u32, Pair<Position, Round>, NoCalls> = Concat::new(alloc);
@@ -314,22 +320,18 @@ fn fork_steps_with_a_seal_between(rt: HostRuntime) -> Result<(), Fail> {
         &more,
         &mut NoCalls,
     )?;
-    match made {
-        Some((early, late)) => {
-            assert_eq!(rt;
-                early.as_slice(),
-                [(2, Weight(2)), (3, Weight(1))].as_slice()
-            );
-            assert_eq!(rt;
-                late.as_slice(),
-                [(4, Weight(1)), (5, Weight(1))].as_slice()
-            );
-        }
-        None => assert!(rt; false, "nothing is due to a map, a filter or a sum"),
-    }
-    let first = sum.first();
-    let left = is_live::<Nested, NoCalls, NextMap<Nested>>(first.first());
-    let right = is_live::<Nested, NoCalls, EvenFilter<Nested>>(first.second());
-    assert!(rt; left && right);
+    let fork = sum.first();
+    let left = is_live::<Nested, NoCalls, NextMap<Nested>>(fork.first());
+    let right = is_live::<Nested, NoCalls, EvenFilter<Nested>>(fork.second());
+    Ok((made, left && right))
+}
+
+#[test]
+fn fork_steps_with_a_seal_between(rt: HostRuntime) -> Result<(), Fail> {
+    let (made, are_live) = fork_in_turn(rt.alloc())?;
+    let early = [(2, Weight(2)), (3, Weight(1))];
+    let late = [(4, Weight(1)), (5, Weight(1))];
+    assert!(rt; have(&made, &early, &late));
+    assert!(rt; are_live);
     Ok(())
 }

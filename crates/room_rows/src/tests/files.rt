@@ -7,7 +7,6 @@ ghost use Rattle.surge_outside.specs.Held.{file_at};
 use std::alloc::{AllocError, Global};
 use std::io::{Error, ErrorKind, Write};
 use std::marker::Brand;
-use std::process::Abort;
 use std::sync::ledger::{Blank, Ledger};
 use std::test::Fail;
 use std::{fs, io, process};
@@ -43,33 +42,52 @@ fn two_steps<L: Ledger>(blank: Blank)
     steps.tick();
 }
 
-#[test]
-fn small_types_keep_what_they_are_given(rt: HostRuntime) -> Result<(), Fail> {
-    let alloc = rt.alloc();
-    let boxed = Boxed::new(alloc, 5u32)?;
-    assert_eq!(rt; (*boxed.get(), boxed.into_inner()), (5, 5));
-    let mut list = List::from_vec([1u8, 2].to_vec(alloc)?);
-    list.push(3)?;
-    assert_eq!(rt; list.len(), 3);
-    assert_eq!(rt; list.as_slice(), [1, 2, 3].as_slice());
-    list.clear();
-    assert!(rt; list.is_empty());
-    assert_eq!(rt; list.into_vec().len(), 0);
-    assert!(rt; text(alloc, "name")?.as_str() == "name");
-    two_steps::<Brand>(Blank::new(1));
-    Ok(())
+/// Whether a box has the number that it was made of.
+fn is_boxed(alloc: Global, number: u32) -> Result<bool, Fail> {
+    let boxed = Boxed::new(alloc, number)?;
+    let seen = *boxed.get();
+    let inner = boxed.into_inner();
+    Ok(seen == number && inner == number)
+}
+
+fn list(alloc: Global, bytes: &[u8]) -> Result<List<u8>, AllocError> {
+    Ok(List::from_vec(bytes.to_vec(alloc)?))
+}
+
+/// Whether a list has these bytes, and so many of them.
+fn has(list: &List<u8>, bytes: &[u8]) -> bool {
+    list.len() == bytes.len() && list.as_slice() == bytes
+}
+
+/// Whether a list grows at its end.
+fn list_grows(alloc: Global) -> Result<bool, Fail> {
+    let mut grown = list(alloc, b"ab")?;
+    grown.push(b'c')?;
+    let is_pushed = has(&grown, b"abc");
+    grown.append(list(alloc, b"def")?)?;
+    Ok(is_pushed && has(&grown, b"abcdef"))
+}
+
+/// Whether a list of six keeps its front, and nothing once it is cleared.
+fn list_shrinks(alloc: Global) -> Result<bool, Fail> {
+    let mut less = list(alloc, b"abcdef")?;
+    less.truncate(4);
+    let is_cut = has(&less, b"abcd");
+    less.truncate(9);
+    let is_kept = has(&less, b"abcd");
+    less.clear();
+    let is_cleared = less.is_empty();
+    let left = less.into_vec();
+    Ok(is_cut && is_kept && is_cleared && left.is_empty())
 }
 
 #[test]
-fn a_list_grows_and_shrinks(rt: HostRuntime) -> Result<(), Fail> {
-    let alloc = rt.alloc();
-    let mut list = List::from_vec([1u8, 2].to_vec(alloc)?);
-    list.append(List::from_vec([3, 4, 5].to_vec(alloc)?))?;
-    assert_eq!(rt; list.as_slice(), [1, 2, 3, 4, 5].as_slice());
-    list.truncate(4);
-    assert_eq!(rt; list.as_slice(), [1, 2, 3, 4].as_slice());
-    list.truncate(9);
-    assert_eq!(rt; list.len(), 4);
+fn small_types_keep_what_they_are_given(rt: HostRuntime) -> Result<(), Fail> {
+    assert!(rt; is_boxed(rt.alloc(), 5)?);
+    assert!(rt; list_grows(rt.alloc())?);
+    assert!(rt; list_shrinks(rt.alloc())?);
+    assert!(rt; text(rt.alloc(), "name")?.as_str() == "name");
+    two_steps::<Brand>(Blank::new(1));
     Ok(())
 }
 
@@ -104,25 +122,89 @@ fn read_whole<F: Files>(
     Ok(Some(bytes))
 }
 
+/// Whether `read_whole` finds these bytes.
+fn is_whole<F: Files>(
+    alloc: Global,
+    files: &mut F,
+    name: &str,
+    limit: usize,
+    bytes: &[u8],
+) -> Result<bool, Trouble> {
+    match read_whole(alloc, files, name, limit)? {
+        Some(found) => Ok(found.as_slice() == bytes),
+        None => Ok(false),
+    }
+}
+
+/// A fetch into a buffer of so many bytes, its answer, and what stands at the front of the buffer then.
+#[derive(Clone, Copy)]
+struct Fetch<'a> {
+    name: &'a str,
+    at: u64,
+    room: usize,
+    answer: Result<Fetched, Trouble>,
+    bytes: &'a str,
+}
+
+/// A fetch that gives these bytes.
+fn gives<'a>(name: &'a str, at: u64, room: usize, bytes: &'a str) -> Fetch<'a> {
+    let answer = Ok(Fetched::Bytes(bytes.len()));
+    Fetch {
+        name,
+        at,
+        room,
+        answer,
+        bytes,
+    }
+}
+
+/// A fetch from the start that gives nothing.
+fn refuses(name: &str, answer: Result<Fetched, Trouble>) -> Fetch<'_> {
+    Fetch {
+        name,
+        at: 0,
+        room: 3,
+        answer,
+        bytes: "",
+    }
+}
+
+/// Whether that comes of a fetch.
+fn is_so<F: Files>(files: &mut F, fetch: Fetch<'_>) -> bool {
+    let mut buf = [0u8; 8];
+    let answer = files.fetch(fetch.name, fetch.at, &mut buf[..fetch.room.min(8)]);
+    answer == fetch.answer && buf.starts_with(fetch.bytes.as_bytes())
+}
+
+/// Whether that comes of each of these, one after the other.
+fn are_so<F: Files>(files: &mut F, fetches: &[Fetch<'_>]) -> bool {
+    for fetch in fetches {
+        if !is_so(files, *fetch) {
+            return false;
+        }
+    }
+    true
+}
+
+/// Files that give pieces of three bytes, and of whose calls the second fails.
+fn failing_files(alloc: Global) -> Result<MemoryFiles, Fail> {
+    let fails = List::from_vec([2u64].to_vec(alloc)?);
+    Ok(MemoryFiles::new(two_files(alloc)?, 3, fails))
+}
+
 #[test]
 fn memory_files_give_pieces_and_fail_where_they_are_told(rt: HostRuntime) -> Result<(), Fail> {
-    let alloc = rt.alloc();
-    let fails = List::from_vec([2u64].to_vec(alloc)?);
-    let mut files = MemoryFiles::new(two_files(alloc)?, 3, fails);
-    for (name, at, want, bytes) in [
-        ("greeting", 1, Ok(Fetched::Bytes(3)), "ell"),
-        ("greeting", 1, Err(Trouble::Failed), ""),
-        ("greeting", 4, Ok(Fetched::Bytes(1)), "o"),
-        ("greeting", 5, Ok(Fetched::Bytes(0)), ""),
-        ("greeting", u64::MAX, Ok(Fetched::Bytes(0)), ""),
-        ("empty", 0, Ok(Fetched::Bytes(0)), ""),
-        ("other", 0, Ok(Fetched::Absent), ""),
-    ] {
-        let mut buf = [0u8; 8];
-        let answer = files.fetch(name, at, &mut buf);
-        assert_eq!(rt; answer, want, "{name} at {at}");
-        assert!(rt; buf.starts_with(bytes.as_bytes()), "{name} at {at}");
-    }
+    let mut files = failing_files(rt.alloc())?;
+    let fetches = [
+        gives("greeting", 1, 8, "ell"),
+        refuses("greeting", Err(Trouble::Failed)),
+        gives("greeting", 4, 8, "o"),
+        gives("greeting", 5, 8, ""),
+        gives("greeting", u64::MAX, 8, ""),
+        gives("empty", 0, 8, ""),
+        refuses("other", Ok(Fetched::Absent)),
+    ];
+    assert!(rt; are_so(&mut files, &fetches));
     Ok(())
 }
 
@@ -130,81 +212,83 @@ fn memory_files_give_pieces_and_fail_where_they_are_told(rt: HostRuntime) -> Res
 fn sure_files_are_read_whole(rt: HostRuntime) -> Result<(), Fail> {
     let alloc = rt.alloc();
     let mut files = SureFiles::new(two_files(alloc)?, 2);
-    let whole = read_whole(alloc, &mut files, "greeting", 100)?.ok_or("no greeting")?;
-    assert_eq!(rt; whole.as_slice(), b"hello".as_slice());
-    let front = read_whole(alloc, &mut files, "greeting", 4)?.ok_or("no front")?;
-    assert_eq!(rt; front.as_slice(), b"hell".as_slice());
+    assert!(rt; is_whole(alloc, &mut files, "greeting", 100, b"hello")?);
+    assert!(rt; is_whole(alloc, &mut files, "greeting", 4, b"hell")?);
     assert!(rt; read_whole(alloc, &mut files, "other", 100)?.is_none());
     Ok(())
 }
 
 #[test]
-fn endless_files_fill_every_buffer(rt: HostRuntime) -> Result<(), Fail> {
-    let mut buf = [0u8; 3];
-    let answer = EndlessFiles::new(32).fetch("any", 7, &mut buf);
-    assert_eq!(rt; answer, Ok(Fetched::Bytes(3)));
-    assert_eq!(rt; buf, [32, 32, 32]);
-    Ok(())
+fn endless_files_fill_every_buffer(rt: HostRuntime) {
+    let mut files = EndlessFiles::new(32);
+    assert!(rt; is_so(&mut files, gives("any", 7, 3, "   ")));
 }
 
-#[test]
-fn sinks_keep_what_is_put(rt: HostRuntime) -> Result<(), Fail> {
-    let alloc = rt.alloc();
-    let mut sure = SureSink::new(alloc, 2);
-    put_all(&mut sure, b"hello")?;
-    put_all(&mut sure, b"")?;
-    put_all(&mut sure, b", you")?;
-    assert_eq!(rt; sure.bytes(), b"hello, you".as_slice());
-    let mut failing = MemorySink::new(alloc, 2, List::from_vec([3u64].to_vec(alloc)?));
-    assert_eq!(rt; put_all(&mut failing, b"hello"), Err(Trouble::Failed));
-    assert_eq!(rt; failing.bytes(), b"hell".as_slice());
-    put_all(&mut failing, b"o")?;
-    assert_eq!(rt; failing.bytes(), b"hello".as_slice());
-    assert_eq!(rt; Trouble::from(NoMemory), Trouble::NoMemory);
-    Ok(())
+/// Whether `abcdefg` is read in pieces, each from where the last one ended, and then again from places before.
+fn gives_pieces<F: Files>(files: &mut F, name: &str) -> bool {
+    let fetches = [
+        gives(name, 0, 2, "ab"),
+        gives(name, 2, 3, "cde"),
+        gives(name, 5, 3, "fg"),
+        gives(name, 7, 3, ""),
+        gives(name, 0, 3, "abc"),
+        gives(name, 5, 1, "f"),
+        gives(name, 9, 3, ""),
+    ];
+    are_so(files, &fetches)
 }
 
-/// Reads `abcdefg` in pieces, each from where the last one ended, and then again from places before.
-fn check_pieces<F: Files>(rt: &impl Abort, files: &mut F, name: &str) {
-    for (at, room, bytes) in [
-        (0, 2, "ab"),
-        (2, 3, "cde"),
-        (5, 3, "fg"),
-        (7, 3, ""),
-        (0, 3, "abc"),
-        (5, 1, "f"),
-        (9, 3, ""),
-    ] {
-        let mut buf = [0u8; 3];
-        let answer = files.fetch(name, at, &mut buf[..room]);
-        assert_eq!(rt; answer, Ok(Fetched::Bytes(bytes.len())), "at {at}");
-        assert!(rt; buf.starts_with(bytes.as_bytes()), "at {at}");
-    }
+/// Whether names of no file are refused, and the file of this name is still read behind them.
+fn refuses_others<F: Files>(alloc: Global, files: &mut F, name: &str) -> Result<bool, Fail> {
+    let missing = format!(in alloc; "{name}-missing")?;
+    let within = format!(in alloc; "{name}/within")?;
+    let fetches = [
+        refuses(missing.as_str(), Ok(Fetched::Absent)),
+        refuses("", Ok(Fetched::Absent)),
+        refuses("/tmp", Err(Trouble::Failed)),
+        refuses(within.as_str(), Err(Trouble::Failed)),
+        refuses("a\0b", Err(Trouble::Failed)),
+        gives(name, 0, 3, "abc"),
+    ];
+    Ok(are_so(files, &fetches))
 }
 
 #[test]
 fn disk_files_read_what_is_there(rt: HostRuntime) -> Result<(), Fail> {
-    let alloc = rt.alloc();
-    let path = format!(in alloc; "/tmp/surge_outside-{}", process::id(rt.process()))?;
+    let path = format!(in rt.alloc(); "/tmp/surge_outside-{}", process::id(rt.process()))?;
     fs::write(&rt, path.as_str(), "abcdefg")?;
-    let missing = format!(in alloc; "{path}-missing")?;
-    let within = format!(in alloc; "{path}/within")?;
     let mut files = DiskFiles::new(rt);
-    check_pieces(&rt, &mut files, path.as_str());
-    for (name, want) in [
-        (missing.as_str(), Ok(Fetched::Absent)),
-        ("", Ok(Fetched::Absent)),
-        ("/tmp", Err(Trouble::Failed)),
-        (within.as_str(), Err(Trouble::Failed)),
-        ("a\0b", Err(Trouble::Failed)),
-        (path.as_str(), Ok(Fetched::Bytes(3))),
-    ] {
-        let mut buf = [0u8; 3];
-        assert_eq!(rt; files.fetch(name, 0, &mut buf), want, "{name}");
-    }
-    let whole = read_whole(alloc, &mut files, path.as_str(), 100)?.ok_or("no file")?;
-    assert_eq!(rt; whole.as_slice(), b"abcdefg".as_slice());
+    assert!(rt; gives_pieces(&mut files, path.as_str()));
+    assert!(rt; refuses_others(rt.alloc(), &mut files, path.as_str())?);
+    assert!(rt; is_whole(rt.alloc(), &mut files, path.as_str(), 100, b"abcdefg")?);
     fs::remove_file(&rt, path.as_str())?;
+    Ok(())
+}
+
+/// Whether a sink keeps all that is put.
+fn sure_sink_keeps(alloc: Global) -> Result<bool, Fail> {
+    let mut sure = SureSink::new(alloc, 2);
+    put_all(&mut sure, b"hello")?;
+    put_all(&mut sure, b"")?;
+    put_all(&mut sure, b", you")?;
+    Ok(sure.bytes() == b"hello, you".as_slice())
+}
+
+/// Whether a sink whose third call fails keeps what was put before it and behind it.
+fn failing_sink_keeps(alloc: Global) -> Result<bool, Fail> {
+    let fails = List::from_vec([3u64].to_vec(alloc)?);
+    let mut failing = MemorySink::new(alloc, 2, fails);
+    let is_refused = put_all(&mut failing, b"hello") == Err(Trouble::Failed);
+    let is_front = failing.bytes() == b"hell".as_slice();
+    put_all(&mut failing, b"o")?;
+    Ok(is_refused && is_front && failing.bytes() == b"hello".as_slice())
+}
+
+#[test]
+fn sinks_keep_what_is_put(rt: HostRuntime) -> Result<(), Fail> {
+    assert!(rt; sure_sink_keeps(rt.alloc())?);
+    assert!(rt; failing_sink_keeps(rt.alloc())?);
+    assert!(rt; Trouble::from(NoMemory) == Trouble::NoMemory);
     Ok(())
 }
 
@@ -228,25 +312,33 @@ impl Write for Scripted {
     }
 }
 
+/// Whether a put over a writer with these answers, the last one first, comes to this.
+fn comes_to(
+    alloc: Global,
+    answers: [Result<usize, ErrorKind>; 3],
+    want: Result<(), Trouble>,
+) -> Result<bool, Fail> {
+    let answers = answers.to_vec(alloc)?;
+    let mut sink = StdSink::new(Scripted { answers });
+    Ok(put_all(&mut sink, b"hello") == want)
+}
+
+/// Whether a writer that keeps all is handed all.
+fn hands_on(alloc: Global) -> Result<bool, Fail> {
+    let mut kept = Vec::new(alloc);
+    put_all(&mut StdSink::new(&mut kept), b"hello")?;
+    Ok(kept.as_slice() == b"hello".as_slice())
+}
+
 #[test]
 fn std_sinks_hand_on_and_refuse(rt: HostRuntime) -> Result<(), Fail> {
     let alloc = rt.alloc();
-    for (answers, want) in [
-        ([Ok(2), Ok(1), Ok(2)], Ok(())),
-        ([Ok(1), Err(ErrorKind::Interrupted), Ok(2)], Ok(())),
-        ([Ok(1), Ok(0), Ok(2)], Err(Trouble::Failed)),
-        (
-            [Ok(1), Err(ErrorKind::BrokenPipe), Ok(2)],
-            Err(Trouble::Failed),
-        ),
-    ] {
-        let answers = answers.to_vec(alloc)?;
-        let mut sink = StdSink::new(Scripted { answers });
-        assert_eq!(rt; put_all(&mut sink, b"hello"), want);
-    }
-    let mut kept = Vec::new(alloc);
-    put_all(&mut StdSink::new(&mut kept), b"hello")?;
-    assert_eq!(rt; kept.as_slice(), b"hello".as_slice());
+    let failed = Err(Trouble::Failed);
+    assert!(rt; comes_to(alloc, [Ok(2), Ok(1), Ok(2)], Ok(()))?);
+    assert!(rt; comes_to(alloc, [Ok(1), Err(ErrorKind::Interrupted), Ok(2)], Ok(()))?);
+    assert!(rt; comes_to(alloc, [Ok(1), Ok(0), Ok(2)], failed)?);
+    assert!(rt; comes_to(alloc, [Ok(1), Err(ErrorKind::BrokenPipe), Ok(2)], failed)?);
+    assert!(rt; hands_on(alloc)?);
     put_all(&mut StdSink::new(rt.stdout()), b"")?;
     Ok(())
 }

@@ -56,6 +56,7 @@ fn outcome_text(alloc: Global, outcome: Outcome) -> Result<String, AllocError> {
     match outcome {
         Outcome::Settled(round) => format!(in alloc; "settled {round}"),
         Outcome::After(round) => format!(in alloc; "after {round}"),
+        Outcome::Phases(phase) => format!(in alloc; "phases {phase}"),
         Outcome::Unsettled => format!(in alloc; "unsettled"),
     }
 }

@@ -5,7 +5,7 @@ use crate::Contents;
 use std::alloc::{AllocError, Global};
 use std::fmt::Write;
 use std::test::Fail;
-use surge_cli::{DataFault, DataFile, DataKind, ScriptFault, Status};
+use surge_cli::{DataFault, DataFile, DataKind, ScriptRefusal, Status};
 
 fn repeated(alloc: Global, text: &str, times: u32) -> Result<String, AllocError> {
     let mut all = String::new(alloc);
@@ -77,7 +77,7 @@ fn a_script_has_at_most_2_to_the_20_bytes(rt: HostRuntime) -> Result<(), Fail> {
     let larger = script_of_size(rt.alloc(), 1_048_577)?;
     let files = contents(larger.as_str(), Some(NODES), Some(EDGES));
     let left = row(&rt, &files, sure(4096))?;
-    assert_eq!(rt; left.status, Status::Script(ScriptFault::TooLarge));
+    assert_eq!(rt; left.status, Status::Script(ScriptRefusal::TooLarge));
     assert_eq!(rt;
         left.err.as_slice(),
         b"surge: script: TooLarge\n".as_slice()

@@ -7,5 +7,5 @@ pair_sorted : IsSortedByKey (λ (e : ℕ × ℕ). e.0) nat_cmp ((3, 2) ∷ (3, 5
 pair_sorted zero d a b = refl
 pair_sorted (suc k) d a b = absurd (omega (arith, b))
 
-pub from_sorted-requires : goal.from_sorted-requires
-from_sorted-requires g c = subst (λ (es : List (ℕ × ℕ)). IsSortedByKey (λ e. e.0) nat_cmp es) (sym c.in_ok-list.ensures) pair_sorted
+pub from_sorted-sum-requires : goal.from_sorted-sum-requires
+from_sorted-sum-requires g c = subst (λ (es : List (ℕ × ℕ)). IsSortedByKey (λ e. e.0) nat_cmp es) (sym c.in_ok-list.ensures) pair_sorted
