@@ -3,8 +3,8 @@
 
     oracle.py (--script FILE | --sample N) [--mode run|check|summary] [--turns N]
 
-It knows no faults: the script and its files are taken to be right. Each view is run alone by synchronous rounds; order,
-splits and turns change nothing but what `show` prints. Python's standard library is all that it needs.
+It knows no faults: the script and its files are taken to be right (faults.py knows them). Each view is run alone by synchronous
+rounds; order, splits and turns change nothing but what `show` prints. Python's standard library is all that it needs.
 """
 
 import argparse
@@ -185,7 +185,8 @@ def words(given):
     source.add_argument("--sample", type=int)
     parser.add_argument("--mode", choices=("run", "check", "summary"), default="run")
     parser.add_argument("--turns", type=int)
-    return parser.parse_args(given)
+    # (a last word of two dashes ends the options, and Python's releases differ in whether they drop it)
+    return parser.parse_args(given[:-1] if given[-1:] == ["--"] else given)
 
 
 def answer(asked):

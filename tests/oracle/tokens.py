@@ -27,7 +27,7 @@ PIECE = re.compile(
 
 
 class NotAScript(Exception):
-    """The text is no script: the oracle tells no places, since the tests of faults have theirs written out."""
+    """The text is no script. Its place is not told here, but by script_faults.py."""
 
 
 def is_name(text):
