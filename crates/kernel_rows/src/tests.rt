@@ -1,6 +1,7 @@
-//! Small views, worked out by hand.
+//! Small segments, worked out by hand.
 
+mod cases;
 mod chained;
-mod plain;
-mod steps;
-mod views;
+mod programs;
+mod segment;
+mod updaters;
