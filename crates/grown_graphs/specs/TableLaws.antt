@@ -26,6 +26,7 @@ module _ (g h : GraphData) (more : GrowsTo g h) where
   same-rows : (o : Outcome) (values : List Val) → rows h o values ≡ rows g o values
   same-rows (outcome.Settled r) values = same-lines values
   same-rows (outcome.After n) values = same-lines values
+  same-rows (outcome.Phases k) values = same-lines values
   same-rows outcome.Unsettled values = refl
 
   pub same-tail : (table : Table) → tail_text h table ≡ tail_text g table
