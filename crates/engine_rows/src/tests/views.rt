@@ -1,4 +1,4 @@
-//! Hop counts from the node 1 on views of four nodes and of two.
+//! Hop counts from the node 1 on views of four nodes.
 
 ghost use Rattle.std.specs.Prelude.{◌≡◌, ◌≤◌, ◌<◌, ◌+◌, ◌++◌, true, false, length, All, IfOk, OnOk};
 ghost use Rattle.graph_model.specs.GraphData.{AreDistinct};
@@ -25,60 +25,33 @@ const NODES: &[u8] = b"id\n1\n2\n3\n4\n";
 
 const EDGES: &[u8] = b"src,dst,y:int\n1,2,1\n2,3,1\n1,3,2\n3,4,3\n";
 
-fn compare(sign: Cmp, number: i64) -> Pred {
-    Pred::Compare(Place::Edge(0), sign, Place::Number(number))
+// The rule of one comparison of the first column with a number.
+fn rule(alloc: Global, sign: Cmp, number: i64) -> Result<ViewRule, AllocError> {
+    let pred = Pred::Compare(Place::Edge(0), sign, Place::Number(number));
+    let rules = List::from_vec(vec![in alloc; pred]?);
+    Ok(ViewRule { rules })
 }
 
-fn one(alloc: Global, pred: Pred) -> Result<ViewRule, AllocError> {
+// At most 1, at most 2, above 1, and at least 2.
+fn four_rules(alloc: Global) -> Result<Vec<ViewRule>, AllocError> {
     let mut rules = Vec::new(alloc);
-    rules.push(pred)?;
-    Ok(ViewRule {
-        rules: List::from_vec(rules),
-    })
-}
-
-// At most 1, at most 2, 2 or 3, and at least 2.
-fn four_views(alloc: Global) -> Result<Vec<ViewRule>, AllocError>
-    ensures { IfOk result (λ views. length views.items ≡ 4) }
-{
-    let mut either = Vec::new(alloc);
-    either.push(compare(Cmp::Eq, 2))?;
-    either.push(compare(Cmp::Eq, 3))?;
-    let mut views = Vec::new(alloc);
-    views.push(one(alloc, compare(Cmp::Le, 1))?)?;
-    views.push(one(alloc, compare(Cmp::Le, 2))?)?;
-    views.push(one(alloc, Pred::Or(List::from_vec(either)))?)?;
-    views.push(one(alloc, compare(Cmp::Ge, 2))?)?;
-    Ok(views)
-}
-
-// All edges, and none.
-fn all_and_none(alloc: Global) -> Result<Vec<ViewRule>, AllocError>
-    ensures { IfOk result (λ views. length views.items ≡ 2) }
-{
-    let mut views = Vec::new(alloc);
-    views.push(one(alloc, Pred::Constant(true))?)?;
-    views.push(one(alloc, Pred::Constant(false))?)?;
-    Ok(views)
+    for (sign, number) in [(Cmp::Le, 1), (Cmp::Le, 2), (Cmp::Gt, 1), (Cmp::Ge, 2)] {
+        rules.push(rule(alloc, sign, number)?)?;
+    }
+    Ok(rules)
 }
 
 // ---- what an engine answers, as text
 
 fn push_value(alloc: Global, text: &mut String, value: Val) -> Result<(), AllocError> {
     match value {
-        Val::Nil => text.push_str("-")?,
-        Val::Num(number) => text.push_str(format!(in alloc; "{number}")?.as_str())?,
+        Val::Nil => text.push_str("-"),
+        Val::Num(number) => text.push_str(format!(in alloc; "{number}")?.as_str()),
     }
-    Ok(())
 }
 
 fn push_table(alloc: Global, text: &mut String, table: &Table) -> Result<(), AllocError> {
-    match table.outcome {
-        Outcome::Settled(round) => text.push_str(format!(in alloc; "settled {round}:")?.as_str())?,
-        Outcome::After(round) => text.push_str(format!(in alloc; "after {round}:")?.as_str())?,
-        Outcome::Phases(phase) => text.push_str(format!(in alloc; "phases {phase}:")?.as_str())?,
-        Outcome::Unsettled => text.push_str("unsettled:")?,
-    }
+    text.push_str(format!(in alloc; "{:?}:", table.outcome)?.as_str())?;
     for value in table.values.as_slice() {
         push_value(alloc, text, *value)?;
     }
@@ -87,26 +60,37 @@ fn push_table(alloc: Global, text: &mut String, table: &Table) -> Result<(), All
 
 fn push_number(alloc: Global, text: &mut String, number: Option<u64>) -> Result<(), AllocError> {
     match number {
-        Some(number) => text.push_str(format!(in alloc; "{number} ")?.as_str())?,
-        None => text.push_str("- ")?,
+        Some(number) => text.push_str(format!(in alloc; "{number} ")?.as_str()),
+        None => text.push_str("- "),
     }
+}
+
+// The segment of a view, its work and its table.
+fn push_view(
+    alloc: Global,
+    text: &mut String,
+    engine: &Engine,
+    view: ViewNo,
+) -> Result<(), NoMemory>
+    requires { IsEngine engine.now }
+{
+    push_number(alloc, text, engine.segment_of(view).map(u64::from))?;
+    push_number(alloc, text, engine.work(view))?;
+    if let Some(table) = engine.result(view)? {
+        push_table(alloc, text, &table)?;
+    }
+    text.push_str(";")?;
     Ok(())
 }
 
-// Of each view its segment, its work and its table.
-fn answers(alloc: Global, engine: &Engine) -> Result<String, NoMemory>
+// The same of each view.
+fn push_views(alloc: Global, text: &mut String, engine: &Engine) -> Result<(), NoMemory>
     requires { IsEngine engine.now }
 {
-    let mut text = String::new(alloc);
     for view in engine.order().as_slice() {
-        push_number(alloc, &mut text, engine.segment_of(*view).map(u64::from))?;
-        push_number(alloc, &mut text, engine.work(*view))?;
-        if let Some(table) = engine.result(*view)? {
-            push_table(alloc, &mut text, &table)?;
-        }
-        text.push_str(";")?;
+        push_view(alloc, text, engine, *view)?;
     }
-    Ok(text)
+    Ok(())
 }
 
 // ---- turns
@@ -146,12 +130,12 @@ fn turn_text(turn: Option<Turn>) -> &'static str {
 
 // Turns the segments with these numbers, and tells of each what it did.
 fn turned<U: Updater>(
-    alloc: Global,
+    text: &mut String,
     engine: &mut Engine,
     matrix: &Matrix,
     turns: &[u32],
     updater: &mut U,
-) -> Result<String, NoMemory>
+) -> Result<(), NoMemory>
     requires engine { IsEngine engine.old }
     requires fresh { engine.old.spent ≡ false }
     requires stands { Stands U.answer matrix.now engine.old }
@@ -160,12 +144,11 @@ fn turned<U: Updater>(
     ensures stands { OnOk result (Stands U.answer matrix.now engine.new) }
     ensures order { OnOk result (engine.new.order ≡ engine.old.order) }
 {
-    let mut text = String::new(alloc);
     for number in turns {
         let turn = turn_one(engine, matrix, *number, updater)?;
         text.push_str(turn_text(turn))?;
     }
-    Ok(text)
+    Ok(())
 }
 
 // Whether each view that has a segment was stepped.
@@ -184,13 +167,13 @@ fn is_finished(engine: &Engine) -> bool
 
 // Adds these views, once each of those before was stepped, and turns segments again.
 fn added<U: Updater>(
-    alloc: Global,
+    text: &mut String,
     engine: &mut Engine,
     matrix: &Matrix,
     later: &[ViewNo],
     turns: &[u32],
     updater: &mut U,
-) -> Result<String, NoMemory>
+) -> Result<(), NoMemory>
     requires engine { IsEngine engine.old }
     requires fresh { engine.old.spent ≡ false }
     requires stands { Stands U.answer matrix.now engine.old }
@@ -200,11 +183,11 @@ fn added<U: Updater>(
     ensures { OnOk result (IsEngine engine.new) }
 {
     if later.is_empty() || !is_finished(engine) {
-        return Ok(String::new(alloc));
+        return Ok(());
     }
     engine.rest();
     engine.more(matrix, later)?;
-    turned(alloc, engine, matrix, turns, updater)
+    turned(text, engine, matrix, turns, updater)
 }
 
 // ---- rows
@@ -217,13 +200,14 @@ fn all_live(alloc: Global, graph: &Graph) -> Result<List<bool>, NoMemory>
 }
 
 // How many segments there are before these turns and behind them, and what the turns did.
-fn early_text<U: Updater>(
+fn early<U: Updater>(
     alloc: Global,
+    text: &mut String,
     engine: &mut Engine,
     matrix: &Matrix,
     turns: &[u32],
     updater: &mut U,
-) -> Result<String, NoMemory>
+) -> Result<(), NoMemory>
     requires engine { IsEngine engine.old }
     requires fresh { engine.old.spent ≡ false }
     requires stands { Stands U.answer matrix.now engine.old }
@@ -232,22 +216,24 @@ fn early_text<U: Updater>(
     ensures stands { OnOk result (Stands U.answer matrix.now engine.new) }
     ensures order { OnOk result (engine.new.order ≡ engine.old.order) }
 {
-    let begun = engine.segments();
-    let text = turned(alloc, engine, matrix, turns, updater)?;
-    let then = engine.segments();
-    Ok(format!(in alloc; "{begun} {text} {then} ")?)
+    push_number(alloc, text, Some(u64::from(engine.segments())))?;
+    turned(text, engine, matrix, turns, updater)?;
+    text.push_str(" ")?;
+    push_number(alloc, text, Some(u64::from(engine.segments())))?;
+    Ok(())
 }
 
 // What the views of an engine answer behind these turns, and with later ones behind more turns.
-fn whole_text<U: Updater>(
+fn whole<U: Updater>(
     alloc: Global,
+    text: &mut String,
     engine: &mut Engine,
     matrix: &Matrix,
     later: &[ViewNo],
     turns: &[u32],
     more: &[u32],
     updater: &mut U,
-) -> Result<String, NoMemory>
+) -> Result<(), NoMemory>
     requires engine { IsEngine engine.old }
     requires fresh { engine.old.spent ≡ false }
     requires stands { Stands U.answer matrix.now engine.old }
@@ -255,16 +241,16 @@ fn whole_text<U: Updater>(
     requires distinct { AreDistinct (engine.old.order ++ later.now) }
     requires few { length engine.old.order + length later.now ≤ 1_024 }
 {
-    let mut text = early_text(alloc, engine, matrix, turns, updater)?;
-    text.push_str(added(alloc, engine, matrix, later, more, updater)?.as_str())?;
+    early(alloc, text, engine, matrix, turns, updater)?;
+    added(text, engine, matrix, later, more, updater)?;
     text.push_str(" ")?;
-    text.push_str(answers(alloc, engine)?.as_str())?;
-    Ok(text)
+    push_views(alloc, text, engine)
 }
 
 // The same of the first views of a matrix and of later ones.
 fn played_on<U: Updater>(
     alloc: Global,
+    text: &mut String,
     graph: &Graph,
     matrix: &Matrix,
     first: &[ViewNo],
@@ -273,7 +259,7 @@ fn played_on<U: Updater>(
     turns: &[u32],
     more: &[u32],
     updater: &mut U,
-) -> Result<String, NoMemory>
+) -> Result<(), NoMemory>
     requires matrix { length matrix.now.live ≡ length graph.now.ends }
     requires views { All (IsView matrix.now) (first.now ++ later.now) }
     requires distinct { AreDistinct (first.now ++ later.now) }
@@ -285,7 +271,16 @@ fn played_on<U: Updater>(
     let program = hops(alloc, 1)?;
     let rounds = Rounds::Within(3);
     let mut engine = Engine::new(alloc, graph, matrix, &program, first, split, rounds)?;
-    whole_text(alloc, &mut engine, matrix, later, turns, more, updater)
+    whole(
+        alloc,
+        text,
+        &mut engine,
+        matrix,
+        later,
+        turns,
+        more,
+        updater,
+    )
 }
 
 // The views of a matrix, at most 1,024.
@@ -301,41 +296,49 @@ fn few_views(alloc: Global, matrix: &Matrix) -> Result<List<ViewNo>, NoMemory>
     Ok(views)
 }
 
-// The same, of so many first views of these rules.
-fn played<L: Ledger>(
+// The matrix of the four views.
+fn four_in(alloc: Global, graph: &Graph) -> Result<Matrix, NoMemory>
+    ensures { IfOk result (λ matrix. length matrix.live ≡ length graph.now.ends) }
+{
+    let live = all_live(alloc, graph)?;
+    let rules = four_rules(alloc)?;
+    if rules.len() > 1_024 {
+        return Err(NoMemory);
+    }
+    Matrix::build(alloc, graph, &live, rules.as_slice())
+}
+
+// The same, of so many first views of a matrix and of the others.
+fn played<U: Updater>(
     alloc: Global,
+    text: &mut String,
     graph: &Graph,
-    rules: &[ViewRule],
+    matrix: &Matrix,
     count: usize,
     split: SplitRule,
     turns: &[u32],
     more: &[u32],
-    blank: Blank,
-) -> Result<String, NoMemory>
-    requires few { length rules.now ≤ 1_024 }
+    updater: &mut U,
+) -> Result<(), NoMemory>
+    requires matrix { length matrix.now.live ≡ length graph.now.ends }
     requires split { AllowsSplit split }
-    requires name { blank.name ≡ L.name }
-    requires parts { blank.parts ≡ L.parts }
-    requires some { 0 < L.parts }
 {
-    let mut steps = Steps::<L>::new(blank);
-    let live = all_live(alloc, graph)?;
-    let matrix = Matrix::build(alloc, graph, &live, rules)?;
-    let views = few_views(alloc, &matrix)?;
+    let views = few_views(alloc, matrix)?;
     let all = views.as_slice();
     if count > all.len() {
-        return Ok(String::new(alloc));
+        return Ok(());
     }
     played_on(
         alloc,
+        text,
         graph,
-        &matrix,
+        matrix,
         &all[..count],
         &all[count..],
         split,
         turns,
         more,
-        &mut steps,
+        updater,
     )
 }
 
@@ -345,40 +348,36 @@ fn graph_in(alloc: Global, nodes: &[u8], edges: &[u8]) -> Result<Graph, Fail> {
     Ok(graph)
 }
 
-// Three views of four nodes, and a fourth once they are stepped.
+// Three views, and a fourth once they are stepped.
+fn counted<L: Ledger>(
+    alloc: Global,
+    text: &mut String,
+    graph: &Graph,
+    split: SplitRule,
+    turns: &[u32],
+    more: &[u32],
+    blank: Blank,
+) -> Result<(), NoMemory>
+    requires split { AllowsSplit split }
+    requires name { blank.name ≡ L.name }
+    requires parts { blank.parts ≡ L.parts }
+    requires some { 0 < L.parts }
+{
+    let mut steps = Steps::<L>::new(blank);
+    let matrix = four_in(alloc, graph)?;
+    played(
+        alloc, text, graph, &matrix, 3, split, turns, more, &mut steps,
+    )
+}
+
+// The same of four nodes.
 fn on_four(alloc: Global, split: SplitRule, turns: &[u32], more: &[u32]) -> Result<String, Fail>
     requires { AllowsSplit split }
 {
     let graph = graph_in(alloc, NODES, EDGES)?;
-    let rules = four_views(alloc)?;
-    Ok(played::<Brand>(
-        alloc,
-        &graph,
-        rules.as_slice(),
-        3,
-        split,
-        turns,
-        more,
-        Blank::new(1),
-    )?)
-}
-
-// Two views of two nodes.
-fn on_two(alloc: Global, split: SplitRule, turns: &[u32]) -> Result<String, Fail>
-    requires { AllowsSplit split }
-{
-    let graph = graph_in(alloc, b"id\n1\n2\n", b"src,dst\n1,2\n")?;
-    let rules = all_and_none(alloc)?;
-    Ok(played::<Brand>(
-        alloc,
-        &graph,
-        rules.as_slice(),
-        2,
-        split,
-        turns,
-        &[],
-        Blank::new(1),
-    )?)
+    let mut text = String::new(alloc);
+    counted::<Brand>(alloc, &mut text, &graph, split, turns, more, Blank::new(1))?;
+    Ok(text)
 }
 
 #[test]
@@ -386,7 +385,7 @@ fn a_segment_for_each_view_in_any_order(rt: HostRuntime) -> Result<(), Fail> {
     let text = on_four(rt.alloc(), SplitRule::Every(1), &[2, 0, 1, 1], &[])?;
     assert_eq!(rt;
         text.as_str(),
-        "3 MMMF 3  0 7 settled 2:012-;1 6 settled 1:011-;2 7 settled 2:0-12;3 - ;"
+        "3 MMMF 3  0 7 Settled(2):012-;1 6 Settled(1):011-;2 7 Settled(2):0-12;3 - ;"
     );
     Ok(())
 }
@@ -396,7 +395,7 @@ fn one_segment_for_all(rt: HostRuntime) -> Result<(), Fail> {
     let text = on_four(rt.alloc(), SplitRule::Whole, &[0, 0, 0, 0], &[0])?;
     assert_eq!(rt;
         text.as_str(),
-        "1 MMMF 1 M 0 7 settled 2:012-;0 3 settled 1:011-;0 5 settled 2:0-12;0 0 settled 2:0-12;"
+        "1 MMMF 1 M 0 7 Settled(2):012-;0 3 Settled(1):011-;0 5 Settled(2):0-12;0 0 Settled(2):0-12;"
     );
     Ok(())
 }
@@ -406,10 +405,10 @@ fn segments_by_works(rt: HostRuntime) -> Result<(), Fail> {
     let text = on_four(rt.alloc(), SplitRule::Auto, &[0, 0, 1], &[1])?;
     assert_eq!(rt;
         text.as_str(),
-        "1 MMM 2 M 0 7 settled 2:012-;0 3 settled 1:011-;1 7 settled 2:0-12;1 0 settled 2:0-12;"
+        "1 MMM 2 M 0 7 Settled(2):012-;0 3 Settled(1):011-;1 7 Settled(2):0-12;1 0 Settled(2):0-12;"
     );
     let early = on_four(rt.alloc(), SplitRule::Auto, &[0, 3], &[0])?;
-    assert_eq!(rt; early.as_str(), "1 M- 1  0 7 settled 2:012-;0 - ;- - ;");
+    assert_eq!(rt; early.as_str(), "1 M- 1  0 7 Settled(2):012-;0 - ;- - ;");
     Ok(())
 }
 
@@ -418,19 +417,7 @@ fn two_views_a_segment(rt: HostRuntime) -> Result<(), Fail> {
     let text = on_four(rt.alloc(), SplitRule::Every(2), &[1, 0, 0], &[1, 1])?;
     assert_eq!(rt;
         text.as_str(),
-        "2 MMM 2 MF 0 7 settled 2:012-;0 3 settled 1:011-;1 7 settled 2:0-12;1 0 settled 2:0-12;"
+        "2 MMM 2 MF 0 7 Settled(2):012-;0 3 Settled(1):011-;1 7 Settled(2):0-12;1 0 Settled(2):0-12;"
     );
-    Ok(())
-}
-
-#[test]
-fn a_view_without_edges(rt: HostRuntime) -> Result<(), Fail> {
-    let whole = on_two(rt.alloc(), SplitRule::Whole, &[0, 0])?;
-    assert_eq!(rt;
-        whole.as_str(),
-        "1 MM 1  0 3 settled 1:01;0 2 settled 0:0-;"
-    );
-    let auto = on_two(rt.alloc(), SplitRule::Auto, &[0, 1])?;
-    assert_eq!(rt; auto.as_str(), "1 MM 2  0 3 settled 1:01;1 2 settled 0:0-;");
     Ok(())
 }

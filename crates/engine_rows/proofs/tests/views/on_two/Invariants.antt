@@ -1,5 +1,0 @@
--- The ledger of the steps is the new one.
-use Rattle.engine_rows.proofs.tests.views.on_two.Given as goal
-
-abbrev pub ghosts-played : goal.ghosts-played
-ghosts-played a = record { name = a.blank.name; parts = a.blank.parts }
