@@ -1,5 +1,6 @@
 mod Distinct
 mod Fitting
+mod Growing
 mod Programs
 mod Reading
 mod SmallGraphs

@@ -4,6 +4,7 @@ mod drawn;
 mod files;
 mod graphs;
 mod one_multiset;
+mod phases;
 mod pieces;
 mod programs;
 mod results;
