@@ -1,0 +1,5 @@
+pub mod Chained
+pub mod ChangeLists
+pub mod ChangeLaws
+pub mod ValueLaws
+pub mod UnchangedLaws

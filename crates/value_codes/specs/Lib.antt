@@ -1,0 +1,5 @@
+pub mod ShortCodes
+pub mod Spans
+pub mod Tallies
+pub mod Numbers
+pub mod SentLaws
