@@ -1,0 +1,12 @@
+use Rattle.std.proofs.Common.{◌≡◌, ◌<◌, ℕ, length, get_or, map}
+use Rattle.vertex_lang.specs.Expressions.{sent_by}
+use Rattle.vertex_lang.specs.Rounds.{value_at}
+use Rattle.message_forms.specs.Codes.{number_at}
+use Rattle.value_codes.specs.ShortCodes.{widened}
+use Rattle.round_messages.proofs.sending.send_short.Given as goal
+
+abbrev pub invariant-loop-node : goal.invariant-loop-node
+invariant-loop-node l = record {
+  size : length l.short.items ≡ l.node;
+  kept : (u e : ℕ) → u < l.node → number_at (map widened l.short.items) u ≡ sent_by l.program l.graph u (value_at l.values u) (get_or l.degrees u 0) e;
+}

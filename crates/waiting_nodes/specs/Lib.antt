@@ -1,0 +1,4 @@
+pub mod Queues
+pub mod WaitingLaws
+pub mod HearingLaws
+pub mod RowTurnLaws
