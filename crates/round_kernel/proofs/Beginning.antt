@@ -11,27 +11,31 @@ use Rattle.graph_model.specs.GraphData.{GraphData}
 use Rattle.vertex_lang.specs.declared.arc.Arc.{Arc}
 use Rattle.vertex_lang.specs.declared.program.Program.{Program}
 use Rattle.vertex_lang.specs.declared.program.Along.{Along}
-use Rattle.vertex_lang.specs.declared.program.Along.TheVariants as along
 use Rattle.vertex_lang.specs.Arcs.{arcs_between, arcs_of_edge, forward, backward, IsArc}
 use Rattle.vertex_lang.specs.Directions.{RunsAlong}
 use Rattle.vertex_lang.specs.Expressions.{Answer, start_of}
 use Rattle.vertex_lang.specs.ExtremeLaws.{contains-here, contains-there, contains-none, contains-cases}
 use Rattle.vertex_lang.specs.RoundLaws.{lone_starts, length-lone}
 use Rattle.vertex_lang.specs.Rounds.{nodes_of, value_at, lone}
-use Rattle.round_kernel.specs.declared.history.Change.{Change}
-use Rattle.round_kernel.specs.declared.history.History.{History}
-use Rattle.round_kernel.specs.declared.round.Frame.{Frame}
-use Rattle.round_kernel.specs.declared.round.Lists.{Lists}
-use Rattle.round_kernel.specs.declared.rows.Rows.{Rows}
-use Rattle.round_kernel.specs.Sides.{arcs_in, IsTurned, AreDegrees, AreSent, MayKeep, IsRound}
+use Rattle.change_lists.specs.declared.history.Change.{Change}
+use Rattle.change_lists.specs.declared.history.History.{History}
+use Rattle.round_kernel.specs.declared.frame.Frame.{Frame}
+use Rattle.round_kernel.specs.declared.frame.Lists.{Lists}
+use Rattle.arc_rows.specs.declared.rows.Rows.{Rows}
+use Rattle.arc_rows.specs.Views.{arcs_in, IsTurned, TellsAll}
+use Rattle.round_inputs.specs.Inputs.{AreDegrees, IsRound}
+use Rattle.round_messages.specs.Sides.{AreSent}
+use Rattle.message_forms.specs.Forms.{MayKeep}
 use Rattle.lone_work.specs.Work.{node_marked}
-use Rattle.round_kernel.specs.Histories.{AreStarts, IsHistory, HasChanges, HasNodes}
-use Rattle.round_kernel.specs.Queues.{IsQueue}
+use Rattle.round_kernel.specs.Histories.{AreStarts, IsHistory}
+use Rattle.change_lists.specs.ChangeLists.{HasChanges, HasNodes}
+use Rattle.waiting_nodes.specs.Queues.{IsQueue}
 use Rattle.round_kernel.specs.Rounds.{was_touched}
 use Rattle.round_kernel.specs.Frames.{IsFrame, StandAt, count_in, was_touched_at}
-use Rattle.round_kernel.specs.TurnedArcs.{TellTurned}
-use Rattle.round_kernel.specs.Steps.{AreAlong, TellsAll}
+use Rattle.arc_rows.specs.TurnedArcs.{TellTurned}
+use Rattle.arc_rows.specs.RowLists.{AreAlong}
 use Rattle.round_kernel.proofs.Calming.{none-marked}
+use Rattle.vertex_lang.specs.declared.program.Along.TheVariants as along
 
 -- ---- no view before
 

@@ -1,9 +1,8 @@
 -- A node that doesn't wait isn't active.
-use Rattle.std.proofs.Common.{◌≡◌, ◌∙◌, ◌+◌, ◌∷◌, [], suc, sym, ap, refl, ℕ, Bool, true, false, List, Some, None, cond, arith, inl, inr}
-use Rattle.std.specs.Prelude.{All, ◌⊎◌, ◌==◌, if◌then◌else◌}
-use Rattle.std.proofs.lemmas.Bool.{cases_Bool, ne_eqb}
-use Rattle.std.proofs.lemmas.List.Sums.{sum_by-cons}
-use Rattle.std.proofs.lemmas.List.Elements.{All-head, All-tail, All-weaker}
+use Rattle.std.proofs.Common.{◌≡◌, ◌∙◌, ◌∷◌, [], suc, sym, ap, refl, ℕ, Bool, true, false, List, Some, None, arith, inl, inr}
+use Rattle.std.specs.Prelude.{All, ◌⊎◌, if◌then◌else◌}
+use Rattle.std.proofs.lemmas.Bool.{cases_Bool}
+use Rattle.std.proofs.lemmas.List.Elements.{All-weaker}
 use Rattle.graph_model.specs.declared.value.Val.{Val}
 use Rattle.graph_model.specs.declared.value.Val.TheVariants.{Nil}
 use Rattle.graph_model.specs.GraphData.{GraphData}
@@ -20,15 +19,7 @@ use Rattle.lone_work.specs.Work.{node_active}
 use Rattle.lone_work.specs.CountLaws.{calm-arcs}
 use Rattle.lone_work.specs.PartLaws.{no-candidate}
 use Rattle.lone_work.specs.WorkLaws.{starts-agree}
-use Rattle.round_kernel.specs.Sides.{in_view, arcs_in}
-use Rattle.round_kernel.proofs.Waiting.{clash}
-
--- the edge of an arc is in both views or in neither
-pub same-or-turned : (a b : Bool) → ((a ≡ b → ⊥) → ⊥) → a ≡ b
-same-or-turned true true h = refl
-same-or-turned true false h = absurd (h (λ e. absurd cc))
-same-or-turned false true h = absurd (h (λ e. absurd cc))
-same-or-turned false false h = refl
+use Rattle.arc_rows.specs.Views.{in_view, arcs_in}
 
 module _ (answer : Answer) (p : Program) (graph : GraphData) (all : List Arc) (old new : List Bool) where
   -- the value of a node stays in both views
@@ -116,19 +107,3 @@ module _ (answer : Answer) (p : Program) (graph : GraphData) (all : List Arc) (n
       (λ a. a.head.0 ≡ v → IsQuiet (λ n. item_of (brought answer p graph all (Some (in_view new)) a n)) (λ n. item_of (brought answer p graph all None a n)) (suc k)) (λ a h e. arc-quiet k a (h e)) all arcs)
 
 -- ---- degrees, where no arc from a node is turned
-
-outdeg-cons : (u : ℕ) (a : Arc) (xs : List Arc) → outdeg (a ∷ xs) u ≡ (if a.tail.0 == u then 1 else 0) + outdeg xs u
-outdeg-cons u a xs = sum_by-cons (λ (b : Arc). cond (b.tail.0 == u) 1 0) a xs
-
-degree-step : (u : ℕ) (a : Arc) (n o : Bool) (ns os : List Arc) → outdeg ns u ≡ outdeg os u → (a.tail.0 ≡ u → o ≡ n) → outdeg (if n then a ∷ ns else ns) u ≡ outdeg (if o then a ∷ os else os) u
-degree-step u a true true ns os e h = outdeg-cons u a ns ∙ ap (λ k. (if a.tail.0 == u then 1 else 0) + k) e ∙ sym (outdeg-cons u a os)
-degree-step u a true false ns os e h = outdeg-cons u a ns ∙ omega (arith, e, ap {B = ℕ} (λ (b : Bool). if b then 1 else 0) (ne_eqb a.tail.0 u (λ t. clash false refl (h t))))
-degree-step u a false true ns os e h = sym (outdeg-cons u a os ∙ omega (arith, e, ap {B = ℕ} (λ (b : Bool). if b then 1 else 0) (ne_eqb a.tail.0 u (λ t. clash false refl (sym (h t))))))
-degree-step u a false false ns os e h = e
-
--- from each node that no turned arc leaves, as many arcs leave in both views
-pub same-degree : (old new : List Bool) (u : ℕ) (all : List Arc) → All (λ a. a.tail.0 ≡ u → in_view old a ≡ in_view new a) all → outdeg (arcs_in all new) u ≡ outdeg (arcs_in all old) u
-same-degree old new u [] each = refl
-same-degree old new u (a ∷ all) each =
-    let P = λ (b : Arc). b.tail.0 ≡ u → in_view old b ≡ in_view new b in
-    degree-step u a (in_view new a) (in_view old a) (arcs_in all new) (arcs_in all old) (same-degree old new u all (All-tail P a all each)) (All-head P a all each)

@@ -8,13 +8,13 @@ use Rattle.vertex_lang.specs.Expressions.{Answer}
 use Rattle.lone_work.specs.Work.{node_active, node_touched, node_marked, touched_before}
 use Rattle.lone_work.specs.WorkLaws.{first-touched}
 use Rattle.lone_work.specs.StepLaws.{counted-is, touched-is}
-use Rattle.round_kernel.specs.declared.round.Frame.{Frame}
-use Rattle.round_kernel.specs.declared.round.Lists.{Lists}
-use Rattle.round_kernel.specs.Sides.{arcs_in}
-use Rattle.round_kernel.specs.Queues.{waits}
+use Rattle.round_kernel.specs.declared.frame.Frame.{Frame}
+use Rattle.round_kernel.specs.declared.frame.Lists.{Lists}
+use Rattle.arc_rows.specs.Views.{arcs_in}
+use Rattle.waiting_nodes.specs.Queues.{waits}
 use Rattle.round_kernel.specs.Rounds.{old_view, was_touched}
 use Rattle.round_kernel.specs.Frames.{AreCalm, touched_at, counted_at, was_touched_at, marked_before, count_in, new_arcs, old_arcs}
-use Rattle.round_kernel.proofs.Waiting.{clash}
+use Rattle.arc_rows.specs.ListLaws.{clash}
 
 or-nothing : (b : Bool) → (b || false) ≡ b
 or-nothing true = refl

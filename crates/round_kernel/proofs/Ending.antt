@@ -13,9 +13,7 @@ use Rattle.multisets.specs.Multisets.{often}
 use Rattle.vertex_lang.specs.declared.arc.Arc.{Arc}
 use Rattle.vertex_lang.specs.declared.program.Program.{Program}
 use Rattle.vertex_lang.specs.declared.lone.Rounds.{Rounds}
-use Rattle.vertex_lang.specs.declared.lone.Rounds.TheVariants as limits
 use Rattle.vertex_lang.specs.declared.lone.Lone.{Lone}
-use Rattle.vertex_lang.specs.declared.lone.Outcome.TheVariants as outcomes
 use Rattle.vertex_lang.specs.Expressions.{Answer}
 use Rattle.vertex_lang.specs.GatherLaws.{values-exact}
 use Rattle.vertex_lang.specs.Lone.{same_value, answer_of, number_of}
@@ -27,17 +25,20 @@ use Rattle.lone_work.specs.Work.{node_counted, node_marked, work, lone_in}
 use Rattle.lone_work.specs.WorkLaws.{first-counted, settled-nothing}
 use Rattle.lone_work.specs.CountLaws.{marked-means, work-by-rounds}
 use Rattle.lone_work.specs.StepLaws.{settled-last, unsettled-last}
-use Rattle.round_kernel.specs.declared.history.Change.{Change}
-use Rattle.round_kernel.specs.declared.history.History.{History}
-use Rattle.round_kernel.specs.declared.round.Frame.{Frame}
-use Rattle.round_kernel.specs.Sides.{arcs_in}
-use Rattle.round_kernel.specs.Histories.{IsHistory, AreStarts, HasNodes, HasChanges, is_changed}
+use Rattle.change_lists.specs.declared.history.Change.{Change}
+use Rattle.change_lists.specs.declared.history.History.{History}
+use Rattle.round_kernel.specs.declared.frame.Frame.{Frame}
+use Rattle.arc_rows.specs.Views.{arcs_in}
+use Rattle.round_kernel.specs.Histories.{IsHistory, AreStarts}
+use Rattle.change_lists.specs.ChangeLists.{HasNodes, HasChanges, is_changed}
 use Rattle.round_kernel.specs.Rounds.{old_view}
 use Rattle.round_kernel.specs.Frames.{IsFrame, count_in, lone_at, new_arcs, old_arcs, counted_at, marked_at}
 use Rattle.round_kernel.specs.Steps.{HasRounds, outcome_of}
-use Rattle.round_kernel.proofs.Waiting.{clash}
-use Rattle.round_kernel.proofs.Filling.{unchanged-at}
+use Rattle.arc_rows.specs.ListLaws.{clash}
+use Rattle.change_lists.specs.UnchangedLaws.{unchanged-at}
 use Rattle.round_kernel.proofs.Visiting.{count-none}
+use Rattle.vertex_lang.specs.declared.lone.Rounds.TheVariants as limits
+use Rattle.vertex_lang.specs.declared.lone.Outcome.TheVariants as outcomes
 
 -- ---- where nothing is listed nothing changes, and the other way round
 

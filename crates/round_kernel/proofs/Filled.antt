@@ -12,18 +12,21 @@ use Rattle.vertex_lang.specs.Expressions.{Answer, sent_by, send_words}
 use Rattle.vertex_lang.specs.Rounds.{value_at}
 use Rattle.lone_work.specs.Work.{node_active, node_touched, node_marked, touched_before}
 use Rattle.lone_work.specs.WorkLaws.{untouched-value}
-use Rattle.round_kernel.specs.declared.history.Change.{Change}
-use Rattle.round_kernel.specs.declared.queue.Queue.{Queue}
-use Rattle.round_kernel.specs.declared.round.Frame.{Frame}
-use Rattle.round_kernel.specs.declared.round.Lists.{Lists}
-use Rattle.round_kernel.specs.Sides.{arcs_in, AreDegrees, IsTurned}
-use Rattle.round_kernel.specs.Histories.{HasChanges, is_changed, is_listed}
-use Rattle.round_kernel.specs.Queues.{waits, StillWait, IsHeard, IsSilent, DegreeAgrees, ValuesAgree, AllHear}
+use Rattle.change_lists.specs.declared.history.Change.{Change}
+use Rattle.waiting_nodes.specs.declared.queue.Queue.{Queue}
+use Rattle.round_kernel.specs.declared.frame.Frame.{Frame}
+use Rattle.round_kernel.specs.declared.frame.Lists.{Lists}
+use Rattle.arc_rows.specs.Views.{arcs_in, IsTurned}
+use Rattle.round_inputs.specs.Inputs.{AreDegrees}
+use Rattle.change_lists.specs.ChangeLists.{HasChanges, is_changed, is_listed}
+use Rattle.waiting_nodes.specs.Queues.{waits, StillWait, IsHeard, IsSilent, DegreeAgrees, ValuesAgree, AllHear}
 use Rattle.round_kernel.specs.Rounds.{old_view, TellParted}
 use Rattle.round_kernel.specs.Frames.{AreStirred, IsFrame, IsQuiet, changes_at, StandAt, AreCalm, count_in, lone_at, old_lone_at, new_arcs, old_arcs, was_touched_at, marked_before}
-use Rattle.round_kernel.proofs.Waiting.{clash}
+use Rattle.arc_rows.specs.ListLaws.{clash}
 use Rattle.round_kernel.proofs.Calm.{Stays, Same, Still, StartsSilent, calm-first}
-use Rattle.round_kernel.proofs.Filling.{changed-at, listed-at, unchanged-at, heard-still, idle-later, idle-start, same-if-still}
+use Rattle.round_kernel.proofs.Filling.{changed-at, listed-at, idle-later, idle-start}
+use Rattle.change_lists.specs.UnchangedLaws.{unchanged-at, same-if-still}
+use Rattle.waiting_nodes.specs.HearingLaws.{heard-still}
 use Rattle.round_kernel.proofs.Calming.{calm-by}
 use Rattle.round_kernel.proofs.Marking.{old-step}
 use Rattle.round_kernel.proofs.Rounding.{touched-on}
@@ -118,10 +121,10 @@ module _ (answer : Answer) (f : Frame) (r : ℕ) (frame : IsFrame answer f f.lim
         (agree (suc k) low off (omega (arith, at)), agree k low off (omega (arith, at)))
     same-values one v low changed (inr agree) = (
       sym (ap (λ (vs : List Val). value_at vs v) (enn ∙ u.new_now.values_are ∙ ap (λ n. lone_at answer f n) at)) ∙ sym agree.0 ∙ ap (λ (vs : List Val). value_at vs v) (eon ∙ (u.old_now one).values_are ∙ ap (λ n. old_lone_at answer f n) at),
-      sym (told v low (elim changed [ inl t ↦ inl (sym ((had-old one).listed v low) ∙ t) | inr t ↦ inr t ]) (sym (ap (λ (bits : List Bool). get_or bits v false) ep) ∙ agree.1)),
+      sym (suspects v low (elim changed [ inl t ↦ inl (sym ((had-old one).listed v low) ∙ t) | inr t ↦ inr t ]) (sym (ap (λ (bits : List Bool). get_or bits v false) ep) ∙ agree.1)),
     ) where
-      told : TellParted answer f.program.now f.graph.now (arcs_in f.rows.now.by_head f.old.now) (new_arcs f) k lists.parted.items
-      told = subst (λ n. TellParted answer f.program.now f.graph.now (arcs_in f.rows.now.by_head f.old.now) (new_arcs f) n lists.parted.items) less (u.parted_are one (omega (arith, at)))
+      suspects : TellParted answer f.program.now f.graph.now (arcs_in f.rows.now.by_head f.old.now) (new_arcs f) k lists.parted.items
+      suspects = subst (λ n. TellParted answer f.program.now f.graph.now (arcs_in f.rows.now.by_head f.old.now) (new_arcs f) n lists.parted.items) less (u.parted_are one (omega (arith, at)))
 
     -- a quiet node has the same values in both views
     quiet-still : f.first ≡ false → (v : ℕ) → v < count_in f → IsQuiet answer f k v → Still answer f.program.now f.graph.now f.rows.now.by_head f.old.now f.new.now k v

@@ -2,7 +2,7 @@
 use Rattle.std.proofs.Common.{◌≡◌, ◌∙◌, ◌<◌, ◌∷◌, [], zero, suc, sym, ap, subst, refl, ℕ, Bool, true, false, List, Some, length, get_or, arith, inl, inr}
 use Rattle.std.specs.Prelude.{All, Contains, ◌⊎◌, ◌||◌, ◌==◌, not}
 use Rattle.std.proofs.lemmas.Bool.{cases_Bool, eqb-true, eq-eqb}
-use Rattle.std.proofs.lemmas.List.Elements.{All-head, All-tail, All-weaker, All-cons, All-contains}
+use Rattle.std.proofs.lemmas.List.Elements.{All-head, All-tail, All-cons, All-contains}
 use Rattle.std.specs.List.Sorted.{IsPermutation}
 use Rattle.std.proofs.lemmas.List.Sorted.{All-permutation, IsPermutation-sym}
 use Rattle.graph_model.specs.declared.value.Val.{Val}
@@ -12,18 +12,17 @@ use Rattle.vertex_lang.specs.declared.arc.Arc.{Arc}
 use Rattle.vertex_lang.specs.declared.program.Program.{Program}
 use Rattle.vertex_lang.specs.Arcs.{IsArc}
 use Rattle.vertex_lang.specs.Expressions.{Answer}
-use Rattle.vertex_lang.specs.Lone.{same_value}
-use Rattle.vertex_lang.specs.Rounds.{value_at}
 use Rattle.vertex_lang.specs.Ignoring.{IgnoresOutdeg}
 use Rattle.lone_work.specs.Work.{node_active}
-use Rattle.vertex_lang.specs.GatherLaws.{values-exact}
-use Rattle.round_kernel.specs.declared.history.Change.{Change}
-use Rattle.round_kernel.specs.declared.queue.Queue.{Queue}
-use Rattle.round_kernel.specs.Sides.{in_view, arcs_in, AreDegrees, IsTurned}
-use Rattle.round_kernel.specs.Histories.{is_changed, is_listed, HasChanges}
-use Rattle.round_kernel.specs.Queues.{waits, StillWait, DegreeAgrees, ValuesAgree, AllHear, IsHeard}
-use Rattle.round_kernel.proofs.Waiting.{clash}
-use Rattle.round_kernel.proofs.Calm.{Stays, Same, SameDegree, StartsSilent, calm-later, calm-start, same-degree, same-or-turned, Still}
+use Rattle.change_lists.specs.declared.history.Change.{Change}
+use Rattle.waiting_nodes.specs.declared.queue.Queue.{Queue}
+use Rattle.arc_rows.specs.Views.{in_view, arcs_in, IsTurned}
+use Rattle.round_inputs.specs.Inputs.{AreDegrees}
+use Rattle.change_lists.specs.ChangeLists.{is_changed, is_listed}
+use Rattle.waiting_nodes.specs.Queues.{waits, DegreeAgrees, ValuesAgree, AllHear, IsHeard}
+use Rattle.arc_rows.specs.ListLaws.{clash}
+use Rattle.round_kernel.proofs.Calm.{Stays, Same, SameDegree, StartsSilent, calm-later, calm-start, Still}
+use Rattle.arc_rows.specs.ViewLaws.{same-degree, same-or-turned}
 
 -- what holds at each change holds at each changed node
 pub changed-at : (P : ℕ → Type 0) (u : ℕ) (cs : List Change) → All (λ c. P c.node.0) cs → is_changed u cs ≡ true → P u
@@ -45,25 +44,6 @@ listed-at P u (n ∷ ns) all e = elim (cases_Bool (n.0 == u)) [
   second : (a b : Bool) → a ≡ false → (a || b) ≡ true → b ≡ true
   second true b f t = absurd cc
   second false b f t = t
-
--- two values that aren't told to differ are one
-pub same-if-still : (x y : Val) → not (same_value x y) ≡ false → x ≡ y
-same-if-still x y e = values-exact.one x y (not-told (same_value x y) e) where
-  not-told : (b : Bool) → not b ≡ false → b ≡ true
-  not-told true f = refl
-  not-told false f = absurd cc
-
--- a node that isn't in the list of changes keeps its value
-pub unchanged-at : (count : ℕ) (before after : List Val) (cs : List Change) (u : ℕ) → u < count → HasChanges count before after cs → is_changed u cs ≡ false → value_at after u ≡ value_at before u
-unchanged-at count before after cs u low h e = same-if-still (value_at after u) (value_at before u) (sym (h.listed u low) ∙ e)
-
-pub heard-still : (first : Bool) (arcs : List Arc) (old new : List Bool) (by : Bool) (od nd : List ℕ) (w t pt : List Bool) (on nn : List Val) (q q' : Queue) (u : ℕ) → StillWait q q'
-    → IsHeard first arcs old new by od nd w t pt on nn q u → IsHeard first arcs old new by od nd w t pt on nn q' u
-heard-still first arcs old new by od nd w t pt on nn q q' u s h = record {
-  itself = elim h.itself [ inl a ↦ inl a | inr a ↦ inr (s.still u a) ];
-  readers = elim h.readers [ inl a ↦ inl a | inr a ↦ inr (All-weaker (λ (x : Arc). x.tail.0 ≡ u → waits q x.head.0 ≡ true) (λ (x : Arc). x.tail.0 ≡ u → waits q' x.head.0 ≡ true) (λ x g e. s.still x.head.0 (g e)) arcs a) ];
-  turned = elim h.turned [ inl a ↦ inl a | inr a ↦ inr (All-weaker (λ (x : Arc). x.tail.0 ≡ u → IsTurned old new x → waits q x.head.0 ≡ true) (λ (x : Arc). x.tail.0 ≡ u → IsTurned old new x → waits q' x.head.0 ≡ true) (λ x g e t. s.still x.head.0 (g e t)) arcs a) ];
-}
 
 -- two truths are the same, or differ
 same-bits : (a b : Bool) → (a ≡ b) ⊎ (a ≡ b → ⊥)
@@ -146,12 +126,12 @@ module _ (answer : Answer) (p : Program) (graph : GraphData) (all tails : List A
   -- and not in round 0, where the heads of all turned arcs wait along which something is sent
   pub idle-start : (turned : List Arc) → All (λ a. IsTurned old new a → Contains turned a) all → All (λ a. StartsSilent answer p graph all old new a ⊎ (waits q a.head.0 ≡ true)) turned → All (λ t. DegreeAgrees by od nd t.tail.0 ⊎ AllHear tails q t.tail.0) turned
       → (v : ℕ) → waits q v ≡ false → node_active answer p graph (arcs_in all new) (Some (arcs_in all old)) v 0 ≡ false
-  idle-start turned told heads readers v idle = calm-start answer p graph all old new v (λ i d low at.
+  idle-start turned suspects heads readers v idle = calm-start answer p graph all old new v (λ i d low at.
       let a = get_or all i d in
       let arc : IsArc graph a = arcs i d low in
       elim (same-bits (in_view old a) (in_view new a)) [
         | inl still ↦ inr (still, degree-at a i d low at refl arc)
-        | inr t ↦ elim (All-contains (λ (b : Arc). StartsSilent answer p graph all old new b ⊎ (waits q b.head.0 ≡ true)) turned a heads (told i d low t)) [
+        | inr t ↦ elim (All-contains (λ (b : Arc). StartsSilent answer p graph all old new b ⊎ (waits q b.head.0 ≡ true)) turned a heads (suspects i d low t)) [
           | inl silent ↦ inl silent
           | inr w ↦ absurd (clash (waits q v) idle (subst (λ n. waits q n ≡ true) at w))
         ]
@@ -161,23 +141,10 @@ module _ (answer : Answer) (p : Program) (graph : GraphData) (all tails : List A
           | inl none ↦ inl (same-degree old new a.tail.0 all none)
           | inr found ↦
               let t = get_or all found.0 a in
-              elim (All-contains (λ (b : Arc). DegreeAgrees by od nd b.tail.0 ⊎ AllHear tails q b.tail.0) turned t readers (told found.0 a found.1 (found.3 a))) [
+              elim (All-contains (λ (b : Arc). DegreeAgrees by od nd b.tail.0 ⊎ AllHear tails q b.tail.0) turned t readers (suspects found.0 a found.1 (found.3 a))) [
                 | inl agrees ↦ same-of a.tail.0 arc.tail (subst (λ n. DegreeAgrees by od nd n) (found.2 a) agrees)
                 | inr hear ↦ absurd (clash (waits q v) idle (subst (λ n. waits q n ≡ true) at (heard-all t.tail.0 hear i d low (ap (λ (b : Arc). b.tail.0) (sym same) ∙ sym (found.2 a)))))
               ]
         ]
 
 -- ---- how a changed node is heard
-
-module _ (first : Bool) (arcs : List Arc) (old new : List Bool) (by : Bool) (od nd : List ℕ) (w t pt : List Bool) (on nn : List Val) (q : Queue) (u : ℕ) where
-  turned-of : AllHear arcs q u → All (λ a. a.tail.0 ≡ u → IsTurned old new a → waits q a.head.0 ≡ true) arcs
-  turned-of h = All-weaker (λ (a : Arc). a.tail.0 ≡ u → waits q a.head.0 ≡ true) (λ (a : Arc). a.tail.0 ≡ u → IsTurned old new a → waits q a.head.0 ≡ true) (λ a g e t. g e) arcs h
-
-  pub heard-fully : waits q u ≡ true → AllHear arcs q u → IsHeard first arcs old new by od nd w t pt on nn q u
-  heard-fully e h = record { itself = inr e; readers = inr h; turned = inr (turned-of h) }
-
-  pub heard-degree : first ≡ false → ValuesAgree t pt on nn u → AllHear arcs q u → IsHeard first arcs old new by od nd w t pt on nn q u
-  heard-degree f v h = record { itself = inl (f, v); readers = inr h; turned = inr (turned-of h) }
-
-  pub heard-turned : first ≡ false → ValuesAgree t pt on nn u → DegreeAgrees by od nd u → (get_or w u false ≡ false) ⊎ All (λ a. a.tail.0 ≡ u → IsTurned old new a → waits q a.head.0 ≡ true) arcs → IsHeard first arcs old new by od nd w t pt on nn q u
-  heard-turned f v d h = record { itself = inl (f, v); readers = inl (f, v, d); turned = h }

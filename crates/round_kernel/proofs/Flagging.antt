@@ -9,21 +9,23 @@ use Rattle.vertex_lang.specs.declared.arc.Arc.{Arc}
 use Rattle.vertex_lang.specs.Arcs.{outdeg}
 use Rattle.vertex_lang.specs.Expressions.{Answer, sent_by, send_words}
 use Rattle.vertex_lang.specs.Rounds.{value_at, lone}
-use Rattle.round_kernel.specs.declared.history.Change.{Change}
-use Rattle.round_kernel.specs.declared.round.Frame.{Frame}
-use Rattle.round_kernel.specs.declared.round.Lists.{Lists}
-use Rattle.round_kernel.specs.declared.told.Told.{Told}
+use Rattle.change_lists.specs.declared.history.Change.{Change}
+use Rattle.round_kernel.specs.declared.frame.Frame.{Frame}
+use Rattle.round_kernel.specs.declared.frame.Lists.{Lists}
+use Rattle.round_kernel.specs.declared.suspects.Suspects.{Suspects}
 use Rattle.round_kernel.specs.Flags.{IsFlagged, IsSettled, AreLong, AreSet}
 use Rattle.round_kernel.specs.Frames.{AreStirred, IsFrame, IsQuiet, StandAt, count_in, lone_at, old_lone_at, new_arcs, was_touched_at}
-use Rattle.round_kernel.specs.TurnedArcs.{TellTurned}
-use Rattle.round_kernel.specs.Histories.{is_changed, HasChanges}
-use Rattle.round_kernel.specs.Sides.{arcs_in}
-use Rattle.round_kernel.specs.Telling.{StandsTold, sent_in, stamp}
-use Rattle.round_kernel.proofs.Brought.{sent-is}
-use Rattle.round_kernel.proofs.Waiting.{clash, or-first, or-right}
-use Rattle.round_kernel.proofs.Calm.{same-degree}
+use Rattle.arc_rows.specs.TurnedArcs.{TellTurned}
+use Rattle.change_lists.specs.ChangeLists.{is_changed, HasChanges}
+use Rattle.arc_rows.specs.Views.{arcs_in}
+use Rattle.round_kernel.specs.Suspects.{StandSuspects, stamp}
+use Rattle.round_inputs.specs.Movers.{sent_in}
+use Rattle.round_inputs.specs.BroughtLaws.{sent-is}
+use Rattle.arc_rows.specs.ListLaws.{clash}
+use Rattle.waiting_nodes.specs.WaitingLaws.{or-first, or-right}
+use Rattle.arc_rows.specs.ViewLaws.{same-degree}
 use Rattle.round_kernel.proofs.Filled.{untouched-agree}
-use Rattle.round_kernel.proofs.Filling.{unchanged-at}
+use Rattle.change_lists.specs.UnchangedLaws.{unchanged-at}
 use Rattle.round_kernel.proofs.Marking.{old-step}
 use Rattle.round_kernel.proofs.Rounding.{touched-on}
 
@@ -49,13 +51,13 @@ module _ (answer : Answer) (f : Frame) (r : ℕ) (touched : ℕ → Bool) (lists
 
 -- ---- round 0
 
-pub told-start : (answer : Answer) (f : Frame) (touched : ℕ → Bool) (lists : Lists) → StandAt answer f 0 touched lists → (told : Told) (n : ℕ) → n ≡ count_in f
-    → length told.apart.items ≡ count_in f → (f.first ≡ false → (u : ℕ) → u < count_in f → IsFlagged f lists u (get_or told.apart.items u false)) → told.moved.items ≡ replicate n 0
-    → TellTurned (λ a. a.head.0) f.graph.now f.rows.now.by_head f.first f.old.now f.new.now told.turned → StandsTold answer f 0 told
-told-start answer f touched lists at told n count size flags moved turned = record {
+pub told-start : (answer : Answer) (f : Frame) (touched : ℕ → Bool) (lists : Lists) → StandAt answer f 0 touched lists → (suspects : Suspects) (n : ℕ) → n ≡ count_in f
+    → length suspects.apart.items ≡ count_in f → (f.first ≡ false → (u : ℕ) → u < count_in f → IsFlagged f lists u (get_or suspects.apart.items u false)) → suspects.moved.items ≡ replicate n 0
+    → TellTurned (λ a. a.head.0) f.graph.now f.rows.now.by_head f.first f.old.now f.new.now suspects.turned → StandSuspects answer f 0 suspects
+told-start answer f touched lists at suspects n count size flags moved turned = record {
   apart_size = size;
   moved_size = ap (λ (ns : List ℕ). length ns) moved ∙ length-replicate {A = ℕ} n 0 ∙ count;
-  apart = λ first u e low unset. flag-tells answer f 0 touched lists at u (get_or told.apart.items u false) low first (flags first u low) unset e;
+  apart = λ first u e low unset. flag-tells answer f 0 touched lists at u (get_or suspects.apart.items u false) low first (flags first u low) unset e;
   moved = λ later. absurd (omega (arith, later));
   turned = turned;
 }
@@ -161,10 +163,10 @@ module _ (answer : Answer) (f : Frame) (r : ℕ) (lists : Lists) (frame : IsFram
     unlisted u off (inl on) = absurd (clash (is_changed u stirred) off on)
     unlisted u off (inr quiet) = quiet
 
-    pub apart-listed : (was mid next : Told) → StandsTold answer f r was → mid.apart ≡ was.apart → AreSet (IsSettled f lists) false stirred mid.apart.items next.apart.items
+    pub apart-listed : (was mid next : Suspects) → StandSuspects answer f r was → mid.apart ≡ was.apart → AreSet (IsSettled f lists) false stirred mid.apart.items next.apart.items
         → f.first ≡ false → (u e : ℕ) → u < count_in f → get_or next.apart.items u false ≡ false
         → sent_in answer f.program.now f.graph.now (new_arcs f) (r + 1) u e ≡ sent_in answer f.program.now f.graph.now (arcs_in f.rows.now.by_head f.old.now) (r + 1) u e
-    apart-listed was mid next told stays parted first u e low unset = elim (cases_Bool (is_changed u stirred)) [
+    apart-listed was mid next suspects stays parted first u e low unset = elim (cases_Bool (is_changed u stirred)) [
       | inl listed ↦ settled-tells u (get_or next.apart.items u false) low first (parted.right u listed) unset e
       | inr off ↦
           let before : get_or was.apart.items u false ≡ false = ap (λ v. get_or v.items u false) (sym stays) ∙ sym (parted.others u off) ∙ unset in
@@ -172,7 +174,7 @@ module _ (answer : Answer) (f : Frame) (r : ℕ) (lists : Lists) (frame : IsFram
             | inl t ↦ quiet-tells u e low first (unlisted u off (st.old u low t))
             | inr still ↦ elim (cases_Bool (is_changed u new)) [
               | inl t ↦ quiet-tells u e low first (unlisted u off (st.new u low (sym (news.listed u low) ∙ t)))
-              | inr out ↦ still-sent (new_arcs f) new u e low news out ∙ told.apart first u e low before
+              | inr out ↦ still-sent (new_arcs f) new u e low news out ∙ suspects.apart first u e low before
                   ∙ sym (still-sent (arcs_in f.rows.now.by_head f.old.now) old u e low (olds first) still)
             ]
           ]
@@ -183,7 +185,7 @@ module _ (answer : Answer) (f : Frame) (r : ℕ) (lists : Lists) (frame : IsFram
       → sent_in answer f.program.now f.graph.now (new_arcs f) (r + 1) u e ≡ sent_in answer f.program.now f.graph.now (arcs_in f.rows.now.by_head f.old.now) (r + 1) u e
   apart-all flags right first u e low unset = flag-tells answer f (r + 1) (was_touched_at answer f (r + 1)) lists at u (get_or flags u false) low first (right u low) unset e
 
-  module _ (was mid next : Told) (told : StandsTold answer f r was)
+  module _ (was mid next : Suspects) (suspects : StandSuspects answer f r was)
       (stays : mid.apart ≡ was.apart) (moved : AreSet (λ u to. to ≡ stamp (r + 1)) 0 new was.moved.items mid.moved.items)
       (size : length next.apart.items ≡ length mid.apart.items)
       (apart : f.first ≡ false → (u e : ℕ) → u < count_in f → get_or next.apart.items u false ≡ false
@@ -201,11 +203,11 @@ module _ (answer : Answer) (f : Frame) (r : ℕ) (lists : Lists) (frame : IsFram
           unchanged-at (count_in f) (lone_at answer f r) (lone_at answer f (r + 1)) new u low news out ∙ ap (λ (k : ℕ). value_at (lone_at answer f k) u) back
     ]
 
-    pub told-next : StandsTold answer f (r + 1) next
+    pub told-next : StandSuspects answer f (r + 1) next
     told-next = record {
-      apart_size = size ∙ ap (λ v. length v.items) stays ∙ told.apart_size;
-      moved_size = ap (λ v. length v.items) kept ∙ moved.size ∙ told.moved_size;
+      apart_size = size ∙ ap (λ v. length v.items) stays ∙ suspects.apart_size;
+      moved_size = ap (λ v. length v.items) kept ∙ moved.size ∙ suspects.moved_size;
       apart = apart;
       moved = λ later u low stays. moved-next u low stays;
-      turned = subst (λ t. TellTurned (λ a. a.head.0) f.graph.now f.rows.now.by_head f.first f.old.now f.new.now t) (sym turned) told.turned;
+      turned = subst (λ t. TellTurned (λ a. a.head.0) f.graph.now f.rows.now.by_head f.first f.old.now f.new.now t) (sym turned) suspects.turned;
     }

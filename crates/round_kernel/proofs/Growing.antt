@@ -5,10 +5,10 @@ use Rattle.std.proofs.lemmas.List.{get_or_append_left, length-append}
 use Rattle.std.proofs.Math.Seq.{get_or-append_seam}
 use Rattle.graph_model.specs.declared.number.NodeNo.{NodeNo}
 use Rattle.vertex_lang.specs.Expressions.{Answer}
-use Rattle.round_kernel.specs.declared.history.Change.{Change}
-use Rattle.round_kernel.specs.declared.history.History.{History}
-use Rattle.round_kernel.specs.declared.round.Frame.{Frame}
-use Rattle.round_kernel.specs.Histories.{HasNodes, HasChanges}
+use Rattle.change_lists.specs.declared.history.Change.{Change}
+use Rattle.change_lists.specs.declared.history.History.{History}
+use Rattle.round_kernel.specs.declared.frame.Frame.{Frame}
+use Rattle.change_lists.specs.ChangeLists.{HasNodes, HasChanges}
 use Rattle.round_kernel.specs.Frames.{count_in, lone_at, marked_at}
 use Rattle.round_kernel.specs.Steps.{HasRounds}
 

@@ -1,6 +1,6 @@
 -- What is kept of messages tells them from others, and a node that is just touched has a mark in one of both views.
 use Rattle.std.proofs.Common.{◌≡◌, ◌∙◌, suc, sym, ap, refl, ℕ, ℤ, ◌+ℤ◌, pos, Bool, true, false, List, Some, length, arith, inl, inr}
-use Rattle.std.specs.Prelude.{◌≢◌, ◌≤◌, ◌&&◌, ◌||◌, All}
+use Rattle.std.specs.Prelude.{◌≢◌, ◌&&◌, ◌||◌, All}
 use Rattle.std.proofs.lemmas.Bool.{cases_Bool}
 use Rattle.std.proofs.lemmas.Int.{ints}
 use Rattle.graph_model.specs.declared.value.Val.{Val}
@@ -18,15 +18,16 @@ use Rattle.multisets.specs.FoldLaws.{fold-one}
 use Rattle.lone_work.specs.Inputs.{got_values}
 use Rattle.lone_work.specs.Work.{node_active, node_touched, node_marked, touched_before}
 use Rattle.lone_work.specs.StepLaws.{counted-is, touched-is, counted-by-marks}
-use Rattle.round_kernel.specs.declared.tally.Tally.{Tally}
-use Rattle.round_kernel.specs.declared.tally.Kept.{Kept}
+use Rattle.value_codes.specs.declared.tally.Tally.{Tally}
+use Rattle.value_codes.specs.declared.tally.Kept.{Kept}
 use Rattle.vertex_lang.specs.Values.{clamped}
-use Rattle.round_kernel.specs.Tallies.{tally_of, kept_of, kept_at}
-use Rattle.round_kernel.specs.Sides.{arcs_in, row_of, all_brought, IsRound}
-use Rattle.round_kernel.specs.Rounds.{old_view, was_touched}
-use Rattle.round_kernel.proofs.Brought.{brought-row}
-use Rattle.round_kernel.proofs.Gathered.{brought-few, row-few}
+use Rattle.value_codes.specs.Tallies.{tally_of, kept_of}
+use Rattle.round_kernel.specs.Rounds.{kept_at, old_view, was_touched}
+use Rattle.arc_rows.specs.Views.{arcs_in, row_of}
+use Rattle.round_messages.specs.Sides.{all_brought}
+use Rattle.round_inputs.specs.Inputs.{IsRound}
 use Rattle.round_kernel.proofs.Visits.{marked-by-messages}
+use Rattle.round_inputs.specs.InputLaws.{tally-got}
 
 -- ---- sums and counts
 
@@ -82,24 +83,6 @@ marked-new answer p graph all old new v r false was m ew t em f g =
     (sym (counted-is answer p graph now before v r) ∙ counted-by-marks answer p graph now before v r t)
 
 -- ---- what a node gets
-
--- there are no more messages than arcs
-pub got-few : (answer : Answer) (p : Program) (graph : GraphData) (all : List Arc) (edges : List Bool) (degrees : List ℕ) (values : List Val) (r : ℕ) → IsRound answer p graph all edges degrees values r
-    → (v : ℕ) → All (IsArc graph) all → length (got_values answer p graph (arcs_in all edges) v r) ≤ length all
-got-few answer p graph all edges degrees values r is v arcs =
-    let row = row_of all v in
-    omega (
-      arith,
-      ap (λ (xs : List Val). length xs) (brought-row answer p graph all edges degrees values r is v row arcs refl),
-      brought-few p graph edges degrees values row,
-      row-few all row v refl,
-    )
-
--- what comes over its arcs comes to what it gets
-pub tally-got : (answer : Answer) (p : Program) (graph : GraphData) (all : List Arc) (edges : List Bool) (degrees : List ℕ) (values : List Val) (r : ℕ) → IsRound answer p graph all edges degrees values r
-    → (v : ℕ) (row : List Arc) → All (IsArc graph) all → row ≡ row_of all v → (tally : Tally) → tally ≡ tally_of p.gather (all_brought p graph edges degrees values row)
-    → tally ≡ tally_of p.gather (got_values answer p graph (arcs_in all edges) v r)
-tally-got answer p graph all edges degrees values r is v row arcs e tally et = et ∙ ap (λ (ms : List Val). tally_of p.gather ms) (brought-row answer p graph all edges degrees values r is v row arcs e)
 
 -- and so does what is kept of it
 pub kept-got : (answer : Answer) (p : Program) (graph : GraphData) (all : List Arc) (edges : List Bool) (degrees : List ℕ) (values : List Val) (r : ℕ) → IsRound answer p graph all edges degrees values r

@@ -15,16 +15,17 @@ use Rattle.lone_work.specs.Inputs.{got_values}
 use Rattle.lone_work.specs.Work.{node_marked}
 use Rattle.lone_work.specs.WorkLaws.{marked-at-first}
 use Rattle.lone_work.specs.SplitLaws.{mark-splits}
-use Rattle.round_kernel.specs.declared.queue.Queue.{Queue}
-use Rattle.round_kernel.specs.declared.round.Frame.{Frame}
-use Rattle.round_kernel.specs.declared.round.Lists.{Lists}
-use Rattle.round_kernel.specs.declared.tally.Kept.{Kept}
-use Rattle.round_kernel.specs.Queues.{waits}
-use Rattle.round_kernel.specs.Tallies.{kept_of, kept_at, no_tally}
+use Rattle.waiting_nodes.specs.declared.queue.Queue.{Queue}
+use Rattle.round_kernel.specs.declared.frame.Frame.{Frame}
+use Rattle.round_kernel.specs.declared.frame.Lists.{Lists}
+use Rattle.value_codes.specs.declared.tally.Kept.{Kept}
+use Rattle.waiting_nodes.specs.Queues.{waits}
+use Rattle.value_codes.specs.Tallies.{kept_of, no_tally}
+use Rattle.round_kernel.specs.Rounds.{kept_at}
 use Rattle.round_kernel.specs.Frames.{AreCalm, AreKept, kept_in, touched_at, was_touched_at, count_in, new_arcs, old_arcs}
 use Rattle.round_kernel.proofs.Kept.{kept-one}
 use Rattle.round_kernel.proofs.Visits.{unmarked-uncounted}
-use Rattle.round_kernel.proofs.Waiting.{clash}
+use Rattle.arc_rows.specs.ListLaws.{clash}
 use Rattle.round_kernel.proofs.Rounding.{touched-on}
 
 -- ---- a node without a mark has the same messages as before

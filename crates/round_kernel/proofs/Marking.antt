@@ -4,12 +4,12 @@ use Rattle.graph_model.specs.declared.number.NodeNo.{NodeNo}
 use Rattle.graph_model.specs.declared.value.Val.{Val}
 use Rattle.vertex_lang.specs.Expressions.{Answer}
 use Rattle.lone_work.specs.Work.{node_marked, lone_in}
-use Rattle.round_kernel.specs.declared.history.Change.{Change}
-use Rattle.round_kernel.specs.declared.round.Frame.{Frame}
-use Rattle.round_kernel.specs.Histories.{HasNodes, HasChanges}
+use Rattle.change_lists.specs.declared.history.Change.{Change}
+use Rattle.round_kernel.specs.declared.frame.Frame.{Frame}
+use Rattle.change_lists.specs.ChangeLists.{HasNodes, HasChanges}
 use Rattle.round_kernel.specs.Rounds.{old_view}
 use Rattle.round_kernel.specs.Frames.{IsFrame, count_in, marked_before, old_arcs, old_lone_at}
-use Rattle.round_kernel.proofs.Waiting.{clash}
+use Rattle.arc_rows.specs.ListLaws.{clash}
 
 module _ (answer : Answer) (f : Frame) (r : ℕ) (frame : IsFrame answer f f.limit) (below : r < f.limit) where
   pub marks-before : 0 < r → (ns : List NodeNo) → ns ≡ get_or f.history.now.marks (r - 1) [] → HasNodes (count_in f) (marked_before answer f r) ns

@@ -15,16 +15,19 @@ use Rattle.vertex_lang.specs.Lone.{same_value}
 use Rattle.vertex_lang.specs.Rounds.{value_at, lone}
 use Rattle.lone_work.specs.Work.{node_touched, touched_before, lone_in}
 use Rattle.lone_work.specs.WorkLaws.{first-touched, untouched-value, untouched-mark}
-use Rattle.round_kernel.specs.declared.history.Change.{Change}
-use Rattle.round_kernel.specs.declared.round.Frame.{Frame}
-use Rattle.round_kernel.specs.declared.round.Lists.{Lists}
-use Rattle.round_kernel.specs.Sides.{arcs_in, in_view, AreSent, MayKeep, IsSized}
-use Rattle.round_kernel.specs.Histories.{HasNodes, HasChanges, is_changed, is_listed}
+use Rattle.change_lists.specs.declared.history.Change.{Change}
+use Rattle.round_kernel.specs.declared.frame.Frame.{Frame}
+use Rattle.round_kernel.specs.declared.frame.Lists.{Lists}
+use Rattle.arc_rows.specs.Views.{arcs_in, in_view}
+use Rattle.round_messages.specs.Sides.{AreSent, IsSized}
+use Rattle.message_forms.specs.Forms.{MayKeep}
+use Rattle.change_lists.specs.ChangeLists.{HasNodes, HasChanges, is_changed, is_listed}
 use Rattle.round_kernel.specs.Flags.{IsParted, AreSet}
 use Rattle.round_kernel.specs.Rounds.{old_view, TellParted}
 use Rattle.round_kernel.specs.Frames.{AreStirred, IsQuiet, stirs, StandAt, AreDivided, HasSome, ArePartedAnew, IsCaughtUp, count_in, lone_at, old_lone_at, new_arcs, old_arcs, touched_at, marked_at, marked_before, was_touched_at, changes_at}
-use Rattle.round_kernel.proofs.Calm.{same-or-turned}
-use Rattle.round_kernel.proofs.Waiting.{clash, or-right}
+use Rattle.arc_rows.specs.ViewLaws.{same-or-turned}
+use Rattle.arc_rows.specs.ListLaws.{clash}
+use Rattle.waiting_nodes.specs.WaitingLaws.{or-right}
 
 -- ---- lists of which the touched nodes are left out
 
@@ -99,7 +102,7 @@ module _ (answer : Answer) (p : Program) (graph : GraphData) (new : List Arc) (v
   untouched-two None low e = absurd (clash (node_touched answer p graph new None v r) e (first-touched answer p graph new v r))
   untouched-two (Some old) low e = (untouched-value answer p graph new old v r (r + 1) low e (omega arith), untouched-value answer p graph new old v r r low e (omega arith))
 
-module _ (answer : Answer) (f : Frame) (r : ℕ) (t : List Bool) (told : (v : ℕ) → v < count_in f → get_or t v false ≡ touched_at answer f r v) where
+module _ (answer : Answer) (f : Frame) (r : ℕ) (t : List Bool) (suspects : (v : ℕ) → v < count_in f → get_or t v false ≡ touched_at answer f r v) where
   pub marks-all : (flags : List Bool) (copied found old : List NodeNo) → 0 < r → AreDivided answer f r flags old copied → HasNodes (count_in f) (λ v. is_listed v copied || (touched_at answer f r v && marked_at answer f r v)) found
       → HasNodes (count_in f) (marked_at answer f r) (found ++ filter (λ n. not (get_or t n.0 false)) old)
   marks-all flags copied found old later b a = record {
@@ -107,7 +110,7 @@ module _ (answer : Answer) (f : Frame) (r : ℕ) (t : List Bool) (told : (v : �
     listed = λ v low.
         list_any-append (λ (n : NodeNo). n.0 == v) found (filter (λ n. not (get_or t n.0 false)) old)
         ∙ ap (λ (c : Bool). c || is_listed v (filter (λ n. not (get_or t n.0 false)) old)) (a.listed v low)
-        ∙ ap (λ (c : Bool). (is_listed v copied || (touched_at answer f r v && marked_at answer f r v)) || c) (any-untouched (λ (n : NodeNo). n.0) t v old ∙ ap (λ (c : Bool). not c && is_listed v old) (told v low))
+        ∙ ap (λ (c : Bool). (is_listed v copied || (touched_at answer f r v && marked_at answer f r v)) || c) (any-untouched (λ (n : NodeNo). n.0) t v old ∙ ap (λ (c : Bool). not c && is_listed v old) (suspects v low))
         ∙ mixed-more (touched_at answer f r v) (marked_at answer f r v) (marked_before answer f r v) (is_listed v copied) (is_listed v old)
         (λ e. untouched-mark answer f.program.now f.graph.now (new_arcs f) (old_arcs f) v r e) (b.listed v low later) (b.stay v low);
   }
@@ -124,7 +127,7 @@ module _ (answer : Answer) (f : Frame) (r : ℕ) (t : List Bool) (told : (v : �
     listed = λ v low.
         list_any-append (λ (c : Change). c.node.0 == v) found rest
         ∙ ap (λ (c : Bool). c || is_changed v rest) (a.listed v low)
-        ∙ ap (λ (c : Bool). (touched_at answer f r v && changes_at answer f r v) || c) (any-untouched (λ (c : Change). c.node.0) t v old ∙ ap (λ (c : Bool). not c && is_changed v old) (told v low) ∙ ap (λ (c : Bool). not (touched_at answer f r v) && c) (b.listed v low))
+        ∙ ap (λ (c : Bool). (touched_at answer f r v && changes_at answer f r v) || c) (any-untouched (λ (c : Change). c.node.0) t v old ∙ ap (λ (c : Bool). not c && is_changed v old) (suspects v low) ∙ ap (λ (c : Bool). not (touched_at answer f r v) && c) (b.listed v low))
         ∙ mixed (touched_at answer f r v) (changes_at answer f r v) (not (same_value (value_at (lone_in answer f.program.now f.graph.now (old_arcs f) (r + 1)) v) (value_at (lone_in answer f.program.now f.graph.now (old_arcs f) r) v))) (λ e.
         let two = untouched-two answer f.program.now f.graph.now (new_arcs f) v r (old_arcs f) low e in
         ap (λ (x : Val). not (same_value x (value_at (lone_at answer f r) v))) two.0 ∙ ap (λ (x : Val). not (same_value (value_at (lone_in answer f.program.now f.graph.now (old_arcs f) (r + 1)) v) x)) two.1);
@@ -136,7 +139,7 @@ module _ (answer : Answer) (f : Frame) (r : ℕ) (t : List Bool) (told : (v : �
     rest = filter test old
 
     copied : (c : Change) → c.node.0 < count_in f → c.value ≡ value_at (lone_in answer f.program.now f.graph.now (old_arcs f) (r + 1)) c.node.0 → get_or t c.node.0 false ≡ false → c.value ≡ value_at (lone_at answer f (r + 1)) c.node.0
-    copied c low e off = e ∙ sym (untouched-two answer f.program.now f.graph.now (new_arcs f) c.node.0 r (old_arcs f) low (sym (told c.node.0 low) ∙ off)).0
+    copied c low e off = e ∙ sym (untouched-two answer f.program.now f.graph.now (new_arcs f) c.node.0 r (old_arcs f) low (sym (suspects c.node.0 low) ∙ off)).0
 
 -- ---- between two rounds
 
@@ -232,12 +235,12 @@ module _ (answer : Answer) (f : Frame) (r : ℕ) where
   pub parted-next : (lists : Lists) → StandAt answer f r (touched_at answer f r) lists → f.first ≡ false → (old stirred : List Change) → old ≡ get_or f.history.now.changes r [] → HasChanges (count_in f) (old_lone_at answer f r) (old_lone_at answer f (r + 1)) old → AreStirred answer f r stirred
       → (was next : List Bool) → AreSet (IsParted lists.touched.items lists.old_now.items lists.new_now.items) false stirred was next
       → TellParted answer f.program.now f.graph.now (arcs_in f.rows.now.by_head f.old.now) (new_arcs f) r next
-  parted-next lists u one old stirred eo olds st was next set v low changed unset = elim told [
+  parted-next lists u one old stirred eo olds st was next set v low changed unset = elim suspects [
     | inl listed ↦ tells (get_or next v false) (set.right v listed) unset
     | inr quiet ↦ untouched quiet.untouched
   ] where
-    told : (is_changed v stirred ≡ true) ⊎ IsQuiet answer f r v
-    told = elim changed [
+    suspects : (is_changed v stirred ≡ true) ⊎ IsQuiet answer f r v
+    suspects = elim changed [
       | inl t ↦ st.old v low (ap (λ (cs : List Change). is_changed v cs) (sym eo) ∙ olds.listed v low ∙ t)
       | inr t ↦ st.new v low t
     ]
@@ -257,14 +260,14 @@ module _ (answer : Answer) (f : Frame) (r : ℕ) where
       → length nn.items ≡ count_in f → length nb.items ≡ count_in f → length on.items ≡ count_in f → length pt.items ≡ count_in f
       → MayKeep a f.program.now f.graph.now → AreSent a f.program.now f.graph.now lists.new_degrees.items nn.items ns
       → StandAt answer f (r + 1) (was_touched_at answer f (r + 1)) (record lists { parted = pt; new_before = nb; old_now = on; new_now = nn; alike = a; new_sent = ns })
-  at-next lists pt nb on nn a ns u enn enb eon told snn snb son spt mk kns = record {
+  at-next lists pt nb on nn a ns u enn enb eon suspects snn snb son spt mk kns = record {
     starts = u.starts;
     new_now = record { sized = sized-of f.new.now lists.new_degrees.items lists.new_now.items nn.items u.new_now.sized snn; degrees_are = u.new_now.degrees_are; values_are = enn };
     new_before = record { sized = sized-of f.new.now lists.new_degrees.items lists.new_before.items nb.items u.new_before.sized snb; degrees_are = u.new_before.degrees_are; values_are = enb ∙ ap (λ n. lone_at answer f n) back };
     old_now = λ one. record { sized = sized-of f.old.now lists.old_degrees.items lists.old_now.items on.items (u.old_now one).sized son; degrees_are = (u.old_now one).degrees_are; values_are = eon one };
     old_sized = sized-of f.old.now lists.old_degrees.items lists.old_now.items on.items u.old_sized son;
     parted_size = spt;
-    parted_are = λ one later. subst (λ n. TellParted answer f.program.now f.graph.now (arcs_in f.rows.now.by_head f.old.now) (new_arcs f) n pt.items) back (told one);
+    parted_are = λ one later. subst (λ n. TellParted answer f.program.now f.graph.now (arcs_in f.rows.now.by_head f.old.now) (new_arcs f) n pt.items) back (suspects one);
     touched_size = u.touched_size;
     touched_are = λ v low. u.touched_are v low ∙ touched-on v;
     marked_size = u.marked_size;

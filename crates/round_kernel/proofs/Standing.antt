@@ -8,14 +8,14 @@ use Rattle.graph_model.specs.declared.value.Val.{Val}
 use Rattle.graph_model.specs.declared.value.Val.TheVariants.{Nil}
 use Rattle.vertex_lang.specs.Expressions.{Answer, start_of}
 use Rattle.vertex_lang.specs.Rounds.{value_at}
-use Rattle.round_kernel.specs.declared.round.Frame.{Frame}
-use Rattle.round_kernel.specs.declared.round.Lists.{Lists}
-use Rattle.round_kernel.specs.declared.queue.Queue.{Queue}
+use Rattle.round_kernel.specs.declared.frame.Frame.{Frame}
+use Rattle.round_kernel.specs.declared.frame.Lists.{Lists}
+use Rattle.waiting_nodes.specs.declared.queue.Queue.{Queue}
 use Rattle.graph_model.specs.GraphData.{GraphData}
 use Rattle.vertex_lang.specs.declared.arc.Arc.{Arc}
 use Rattle.vertex_lang.specs.declared.program.Program.{Program}
-use Rattle.round_kernel.specs.Sides.{IsRound}
-use Rattle.round_kernel.specs.Queues.{IsQueue, waits}
+use Rattle.round_inputs.specs.Inputs.{IsRound}
+use Rattle.waiting_nodes.specs.Queues.{IsQueue, waits}
 use Rattle.round_kernel.specs.Frames.{StandAt, IsPlace, IsKept, AreShown, count_in, marked_before, was_touched_at}
 
 -- a round, as slices of the lists

@@ -7,14 +7,13 @@ use Rattle.std.proofs.lemmas.List.{get_or-set_other}
 use Rattle.graph_model.specs.declared.number.NodeNo.{NodeNo}
 use Rattle.vertex_lang.specs.Expressions.{Answer}
 use Rattle.vertex_lang.specs.Rounds.{value_at, nodes_of}
-use Rattle.round_kernel.specs.declared.history.Change.{Change}
-use Rattle.round_kernel.specs.declared.queue.Queue.{Queue}
-use Rattle.round_kernel.specs.declared.round.Frame.{Frame}
-use Rattle.round_kernel.specs.declared.round.Lists.{Lists}
+use Rattle.change_lists.specs.declared.history.Change.{Change}
+use Rattle.waiting_nodes.specs.declared.queue.Queue.{Queue}
+use Rattle.round_kernel.specs.declared.frame.Frame.{Frame}
+use Rattle.round_kernel.specs.declared.frame.Lists.{Lists}
 use Rattle.round_kernel.specs.declared.visit.Made.{Made}
-use Rattle.round_kernel.specs.Histories.{HasNodes, is_listed, is_changed}
-use Rattle.round_kernel.specs.Queues.{waits, IsQueue}
-use Rattle.round_kernel.specs.Made.{mark_if, change_if}
+use Rattle.change_lists.specs.ChangeLists.{HasNodes, is_listed, is_changed, mark_if, change_if}
+use Rattle.waiting_nodes.specs.Queues.{waits, IsQueue}
 use Rattle.round_kernel.specs.Frames.{StandAt, AreCalm, HasSome, IsKept, touched_at, counted_at, marked_at, was_touched_at, lone_at, count_in, changes_at, new_arcs, old_arcs}
 use Rattle.round_kernel.proofs.Visits.{unmarked-uncounted, stays-unchanged}
 use Rattle.round_kernel.proofs.Visiting.{done, done-visited, listed-if, changed-if, within-if, all-if, count-none, count-same, count-at}

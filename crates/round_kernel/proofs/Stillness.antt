@@ -15,9 +15,9 @@ use Rattle.vertex_lang.specs.GatherLaws.{values-exact}
 use Rattle.multisets.specs.Multisets.{are_one}
 use Rattle.multisets.specs.CountLaws.{one-tells, one-refl}
 use Rattle.lone_work.specs.Inputs.{got_values}
-use Rattle.round_kernel.specs.declared.told.Told.{Told}
-use Rattle.round_kernel.specs.Sides.{in_view, arcs_in, row_of}
-use Rattle.round_kernel.specs.Telling.{IsTold, stamp}
+use Rattle.round_kernel.specs.declared.suspects.Suspects.{Suspects}
+use Rattle.arc_rows.specs.Views.{in_view, arcs_in, row_of}
+use Rattle.round_kernel.specs.Suspects.{AreSuspects, stamp}
 
 -- what holds of the chosen ones holds of each that is chosen
 module _ {A : Type 0} (P : A → Type 0) (h : A → Bool) where
@@ -33,16 +33,6 @@ module _ {A : Type 0} (P : A → Type 0) (h : A → Bool) where
   pub of-chosen : (xs : List A) → All P (filter h xs) → All (λ x. h x ≡ true → P x) xs
   of-chosen [] each = All-nil (λ x. h x ≡ true → P x)
   of-chosen (x ∷ xs) each = All-cons (λ y. h y ≡ true → P y) x xs (λ e. chosen-head x xs each e) (of-chosen xs (chosen-tail x xs each))
-
--- what follows for the chosen ones
-pub All-filtered : {A : Type 0} (P Q : A → Type 0) (h : A → Bool) → ((x : A) → h x ≡ true → P x → Q x) → (xs : List A) → All P xs → All Q (filter h xs)
-All-filtered P Q h then [] each = All-nil Q
-All-filtered P Q h then (x ∷ xs) each =
-    let rest = All-filtered P Q h then xs (All-tail P x xs each) in
-    elim (cases_Bool (h x)) [
-      | inl e ↦ rw e (All-cons Q x (filter h xs) (then x e (All-head P x xs each)) rest)
-      | inr e ↦ rw e rest
-    ]
 
 -- an arc to the node is in both views or in none, and carries the same
 pub record IsSame (h f g : Arc → Bool) (b c : Arc → Val) (a : Arc) : Type 0 where
@@ -72,24 +62,24 @@ module _ (h f g : Arc → Bool) (b c : Arc → Val) where
         ]
       ]
 
-module _ (answer : Answer) (p : Program) (graph : GraphData) (all : List Arc) (first : Bool) (old new : List Bool) (r : ℕ) (told : Told) (is : IsTold answer p graph all first old new r told) (arcs : All (IsArc graph) all) (v : ℕ) where
+module _ (answer : Answer) (p : Program) (graph : GraphData) (all : List Arc) (first : Bool) (old new : List Bool) (r : ℕ) (suspects : Suspects) (is : AreSuspects answer p graph all first old new r suspects) (arcs : All (IsArc graph) all) (v : ℕ) where
   abbrev to_node : Arc → Bool
   to_node a = a.head.0 == v
 
   -- in both views
-  pub same-views : first ≡ false → All (λ a. to_node a ≡ true → in_view new a ≡ in_view old a) all → (row : List Arc) → row ≡ row_of all v → All (λ a. get_or told.apart.items a.tail.0 false ≡ false) row
+  pub same-views : first ≡ false → All (λ a. to_node a ≡ true → in_view new a ≡ in_view old a) all → (row : List Arc) → row ≡ row_of all v → All (λ a. get_or suspects.apart.items a.tail.0 false ≡ false) row
       → got_values answer p graph (arcs_in all new) v r ≡ got_values answer p graph (arcs_in all old) v r
   same-views one none row e still =
       let now = carried p graph (arcs_in all new) (lone answer p graph (arcs_in all new) r) in
       let before = carried p graph (arcs_in all old) (lone answer p graph (arcs_in all old) r) in
-      let each = of-chosen (λ (a : Arc). get_or told.apart.items a.tail.0 false ≡ false) to_node all (subst (λ (xs : List Arc). All (λ a. get_or told.apart.items a.tail.0 false ≡ false) xs) e still) in
+      let each = of-chosen (λ (a : Arc). get_or suspects.apart.items a.tail.0 false ≡ false) to_node all (subst (λ (xs : List Arc). All (λ a. get_or suspects.apart.items a.tail.0 false ≡ false) xs) e still) in
       ap (λ (ms : List Val). filter is_sent ms) (same-list to_node (in_view new) (in_view old) now before all (λ k d low. record {
         view = λ h. none k d low h;
         carries = λ h. is.apart one (get_or all k d).tail.0 (get_or all k d).edge.0 (arcs k d low).tail (each k d low h);
       }))
 
   -- in two rounds of the new view
-  module _ (later : 0 < r) (moved : List ℕ) (s : ℕ) (em : moved ≡ told.moved.items) (es : s ≡ stamp r) where
+  module _ (later : 0 < r) (moved : List ℕ) (s : ℕ) (em : moved ≡ suspects.moved.items) (es : s ≡ stamp r) where
     unmoved : (u : ℕ) → u < length graph.ids → (get_or moved u 0 == s) ≡ false → value_at (lone answer p graph (arcs_in all new) r) u ≡ value_at (lone answer p graph (arcs_in all new) (r - 1)) u
     unmoved u low still = is.moved later u low (λ e. eqb-false (get_or moved u 0) s still (ap (λ (ns : List ℕ). get_or ns u 0) em ∙ e ∙ sym es))
 

@@ -1,54 +1,29 @@
 -- Arcs that are in one of two views alone, and that are told in rows.
-use Rattle.std.proofs.Common.{◌≡◌, ◌∙◌, ◌∷◌, [], sym, ap, subst, ℕ, Bool, true, false, List, length, get_or, inl, inr, filter}
+use Rattle.std.proofs.Common.{◌≡◌, ◌∙◌, [], sym, subst, ℕ, Bool, true, false, List, length, get_or, filter}
 use Rattle.std.specs.Prelude.{All, Contains, ◌==◌}
 use Rattle.std.specs.List.Sorted.{IsPermutation}
-use Rattle.std.proofs.lemmas.Bool.{cases_Bool}
-use Rattle.std.proofs.lemmas.List.Elements.{All-contains, All-weaker}
+use Rattle.std.proofs.lemmas.List.Elements.{All-weaker}
 use Rattle.std.proofs.lemmas.List.Sorted.{All-permutation, Contains-permutation}
 use Rattle.graph_model.specs.GraphData.{GraphData}
 use Rattle.vertex_lang.specs.declared.arc.Arc.{Arc}
 use Rattle.vertex_lang.specs.Arcs.{IsArc}
-use Rattle.vertex_lang.specs.ExtremeLaws.{contains-here, contains-there, contains-none, contains-cases}
-use Rattle.round_kernel.specs.declared.turned.Turned.{Turned}
-use Rattle.round_kernel.specs.RowLists.{IsGrouped}
-use Rattle.round_kernel.specs.Sides.{IsTurned, in_view}
-use Rattle.round_kernel.specs.Queues.{waits}
-use Rattle.round_kernel.specs.declared.queue.Queue.{Queue}
-use Rattle.round_kernel.specs.TurnedArcs.{TellTurned}
-use Rattle.round_kernel.proofs.Calm.{same-or-turned}
-use Rattle.round_kernel.proofs.Stillness.{All-filtered}
-use Rattle.round_kernel.proofs.Waiting.{row-hears}
-
--- one of the chosen ones
-pub contains-chosen : (h : Arc → Bool) (xs : List Arc) (a : Arc) → Contains xs a → h a ≡ true → Contains (filter h xs) a
-contains-chosen h [] a has chosen = absurd (contains-none a has)
-contains-chosen h (x ∷ xs) a has chosen = elim (contains-cases x xs a has) [
-  | inl here ↦
-      let at : h x ≡ true = ap h here ∙ chosen in
-      rw at (subst (λ (y : Arc). Contains (y ∷ filter h xs) a) (sym here) (contains-here a (filter h xs)))
-  | inr there ↦
-      let rest = contains-chosen h xs a there chosen in
-      elim (cases_Bool (h x)) [
-        | inl e ↦ rw e (contains-there x (filter h xs) a rest)
-        | inr e ↦ rw e rest
-      ]
-]
+use Rattle.vertex_lang.specs.ExtremeLaws.{contains-none}
+use Rattle.arc_rows.specs.declared.turned.Turned.{Turned}
+use Rattle.arc_rows.specs.RowLists.{IsGrouped}
+use Rattle.arc_rows.specs.Views.{IsTurned, in_view}
+use Rattle.arc_rows.specs.TurnedArcs.{TellTurned}
+use Rattle.arc_rows.specs.ViewLaws.{same-or-turned}
+use Rattle.waiting_nodes.specs.RowTurnLaws.{All-filtered, contains-chosen}
 
 -- what is told in one order is told in another
 pub told-grouped : (node_of : Arc → ℕ) (graph : GraphData) (all arcs : List Arc) (first : Bool) (old new : List Bool) (turned : Turned) (count : ℕ) → count ≡ length graph.ids
     → IsGrouped node_of turned.arcs turned.ends count → IsPermutation arcs turned.arcs → All (IsArc graph) arcs → (first ≡ false → All (λ a. IsTurned old new a → Contains arcs a) all)
     → TellTurned node_of graph all first old new turned
-told-grouped node_of graph all arcs first old new turned count size rows same within told = record {
+told-grouped node_of graph all arcs first old new turned count size rows same within suspects = record {
   rows = subst (λ n. IsGrouped node_of turned.arcs turned.ends n) size rows;
   arcs = All-permutation (IsArc graph) arcs turned.arcs same within;
-  each = λ one i d low t. Contains-permutation arcs turned.arcs (get_or all i d) same (told one i d low t);
+  each = λ one i d low t. Contains-permutation arcs turned.arcs (get_or all i d) same (suspects one i d low t);
 }
-
--- a row of arcs is given whole where those of it that are turned wait
-pub turned-hear : (old new : List Bool) (tails told row : List Arc) (u : ℕ) (q : Queue) → row ≡ filter (λ a. a.tail.0 == u) told → All (λ a. waits q a.head.0 ≡ true) row
-    → All (λ a. IsTurned old new a → Contains told a) tails → All (λ a. a.tail.0 ≡ u → IsTurned old new a → waits q a.head.0 ≡ true) tails
-turned-hear old new tails told row u q e all each = λ i d low at t.
-    All-contains (λ (b : Arc). b.tail.0 ≡ u → waits q b.head.0 ≡ true) told (get_or tails i d) (row-hears told row u q e all) (each i d low t) at
 
 module _ (graph : GraphData) (all : List Arc) (first : Bool) (old new : List Bool) (turned : Turned) (is : TellTurned (λ a. a.head.0) graph all first old new turned) (one : first ≡ false) (v : ℕ) where
   abbrev to_node : Arc → Bool

@@ -10,9 +10,8 @@ use Rattle.std.proofs.lemmas.List.FromFn.{map-range_with_len_more}
 use Rattle.std.proofs.lemmas.List.Sums.{sum_by_push}
 use Rattle.graph_model.specs.declared.value.Val.{Val}
 use Rattle.graph_model.specs.declared.number.NodeNo.{NodeNo}
-use Rattle.round_kernel.specs.declared.history.Change.{Change}
-use Rattle.round_kernel.specs.Histories.{is_listed, is_changed}
-use Rattle.round_kernel.specs.Made.{mark_if, change_if}
+use Rattle.change_lists.specs.declared.history.Change.{Change}
+use Rattle.change_lists.specs.ChangeLists.{is_listed, is_changed, mark_if, change_if}
 
 -- ---- counts
 

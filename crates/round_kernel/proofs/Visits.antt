@@ -18,7 +18,7 @@ use Rattle.vertex_lang.specs.RoundLaws.{next-at}
 use Rattle.lone_work.specs.WorkLaws.{first-touched, marked-at-first, uncounted-value}
 use Rattle.lone_work.specs.SplitLaws.{mark-splits}
 use Rattle.lone_work.specs.StepLaws.{counted-is, touched-is, untouched-test, counted-by-marks}
-use Rattle.round_kernel.specs.Sides.{arcs_in}
+use Rattle.arc_rows.specs.Views.{arcs_in}
 use Rattle.round_kernel.specs.Rounds.{old_view, was_touched}
 
 -- ---- touched

@@ -10,16 +10,19 @@ use Rattle.vertex_lang.specs.Lone.{same_value}
 use Rattle.vertex_lang.specs.Rounds.{value_at, lone}
 use Rattle.vertex_lang.specs.Ignoring.{IgnoresOutdeg}
 use Rattle.lone_work.specs.Work.{node_touched, node_counted, node_marked}
-use Rattle.round_kernel.specs.declared.history.Change.{Change}
-use Rattle.round_kernel.specs.declared.round.Frame.{Frame}
-use Rattle.round_kernel.specs.declared.round.Lists.{Lists}
-use Rattle.round_kernel.specs.Sides.{arcs_in, in_view, IsTurned, AreSent, IsRound}
-use Rattle.round_kernel.specs.Histories.{IsHistory, is_changed, is_listed}
-use Rattle.round_kernel.specs.RowLists.{AreRows}
-use Rattle.round_kernel.specs.Queues.{waits}
-use Rattle.round_kernel.specs.declared.tally.Kept.{Kept}
-use Rattle.round_kernel.specs.Tallies.{kept_of, kept_at, no_tally}
-use Rattle.round_kernel.specs.Rounds.{old_view, AreAt, was_touched}
+use Rattle.change_lists.specs.declared.history.Change.{Change}
+use Rattle.round_kernel.specs.declared.frame.Frame.{Frame}
+use Rattle.round_kernel.specs.declared.frame.Lists.{Lists}
+use Rattle.arc_rows.specs.Views.{arcs_in, in_view, IsTurned}
+use Rattle.round_messages.specs.Sides.{AreSent}
+use Rattle.round_inputs.specs.Inputs.{IsRound}
+use Rattle.round_kernel.specs.Histories.{IsHistory}
+use Rattle.change_lists.specs.ChangeLists.{is_changed, is_listed}
+use Rattle.arc_rows.specs.RowLists.{AreRows}
+use Rattle.waiting_nodes.specs.Queues.{waits}
+use Rattle.value_codes.specs.declared.tally.Kept.{Kept}
+use Rattle.value_codes.specs.Tallies.{kept_of, no_tally}
+use Rattle.round_kernel.specs.Rounds.{kept_at, old_view, AreAt, was_touched}
 
 -- the arcs of the new view, and of the view before if there's one
 abbrev pub new_arcs : Frame → List Arc

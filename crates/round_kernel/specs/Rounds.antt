@@ -7,10 +7,16 @@ use Rattle.vertex_lang.specs.Expressions.{Answer, start_of}
 use Rattle.vertex_lang.specs.Lone.{same_value}
 use Rattle.vertex_lang.specs.Rounds.{nodes_of, value_at, lone}
 use Rattle.lone_work.specs.Work.{touched_before}
-use Rattle.round_kernel.specs.declared.round.Lists.{Lists}
-use Rattle.round_kernel.specs.Sides.{IsTurned, arcs_in, AreSent, MayKeep, IsSized, IsRound}
-use Rattle.round_kernel.specs.TurnedArcs.{TellTurned}
-use Rattle.round_kernel.specs.Queues.{IsQueue, waits}
+use Rattle.round_kernel.specs.declared.frame.Lists.{Lists}
+use Rattle.arc_rows.specs.Views.{IsTurned, arcs_in}
+use Rattle.round_messages.specs.Sides.{AreSent, IsSized}
+use Rattle.round_inputs.specs.Inputs.{IsRound}
+use Rattle.message_forms.specs.Forms.{MayKeep}
+use Rattle.arc_rows.specs.TurnedArcs.{TellTurned}
+use Rattle.waiting_nodes.specs.Queues.{IsQueue, waits}
+use Rattle.value_codes.specs.declared.tally.Kept.{Kept}
+use Rattle.lone_work.specs.Inputs.{got_values}
+use Rattle.value_codes.specs.Tallies.{tally_of, kept_of}
 
 -- the view before, if there's one
 abbrev pub old_view : Bool → List Arc → List Bool → Option (List Arc)
@@ -54,3 +60,7 @@ pub record AreIdle (lists : Lists) : Type 0 where
 -- touched before this round; where there's no view before, always
 abbrev pub was_touched : Answer → Program → GraphData → List Arc → Bool → List Bool → List Bool → ℕ → ℕ → Bool
 was_touched answer p graph all first old new r v = first || touched_before answer p graph (arcs_in all new) (old_view first all old) v r
+
+-- and of those that a node gets in a round of a view
+abbrev pub kept_at : Answer → Program → GraphData → List Arc → ℕ → ℕ → Kept
+kept_at answer p graph arcs r v = kept_of (tally_of p.gather (got_values answer p graph arcs v r))

@@ -1,40 +1,20 @@
 -- What a step makes of all rounds.
-use Rattle.std.specs.Prelude.{◌≡◌, ◌≢◌, ◌<◌, ◌≤◌, ◌+◌, ◌-◌, ◌==◌, ℕ, Bool, false, if◌then◌else◌, List, [], length, get_or, map, All, Contains, Some}
-use Rattle.std.specs.List.{range_with_len}
-use Rattle.std.specs.List.Sorted.{IsPermutation}
-use Rattle.graph_model.specs.declared.number.EdgeNo.{EdgeNo}
-use Rattle.graph_model.specs.GraphData.{GraphData}
-use Rattle.vertex_lang.specs.declared.program.Along.{Along}
+use Rattle.std.specs.Prelude.{◌≡◌, ◌≢◌, ◌<◌, ◌≤◌, ◌+◌, ◌-◌, ◌==◌, ℕ, false, if◌then◌else◌, [], length, get_or, Some}
 use Rattle.vertex_lang.specs.declared.lone.Rounds.{Rounds}
-use Rattle.vertex_lang.specs.declared.lone.Rounds.TheVariants as limits
 use Rattle.vertex_lang.specs.declared.lone.Outcome.{Outcome}
-use Rattle.vertex_lang.specs.declared.lone.Outcome.TheVariants as outcomes
-use Rattle.vertex_lang.specs.Arcs.{arcs_between}
-use Rattle.vertex_lang.specs.Directions.{RunsAlong}
 use Rattle.vertex_lang.specs.Expressions.{Answer}
 use Rattle.vertex_lang.specs.Rounds.{lone, value_at}
 use Rattle.lone_work.specs.Work.{work}
-use Rattle.round_kernel.specs.declared.history.History.{History}
-use Rattle.round_kernel.specs.declared.rows.Rows.{Rows}
-use Rattle.round_kernel.specs.declared.round.Frame.{Frame}
+use Rattle.change_lists.specs.declared.history.History.{History}
+use Rattle.round_kernel.specs.declared.frame.Frame.{Frame}
 use Rattle.round_kernel.specs.declared.step.Run.{Run}
-use Rattle.round_kernel.specs.Counts.{ArePlain}
-use Rattle.round_kernel.specs.Histories.{IsHistory, HasNodes, HasChanges}
-use Rattle.round_kernel.specs.RowLists.{edge}
-use Rattle.round_kernel.specs.Sides.{arcs_in}
+use Rattle.arc_rows.specs.Counts.{ArePlain}
+use Rattle.round_kernel.specs.Histories.{IsHistory}
+use Rattle.change_lists.specs.ChangeLists.{HasNodes, HasChanges}
+use Rattle.arc_rows.specs.Views.{arcs_in}
 use Rattle.round_kernel.specs.Frames.{new_arcs, old_arcs, lone_at, marked_at, count_in}
-
--- the rows are those of all edges of the graph in this direction
-abbrev pub AreOfAll : Along → GraphData → Rows → Type 0
-AreOfAll way graph rows = IsPermutation (arcs_between way graph (map edge (range_with_len 0 (length graph.ends)))) rows.by_head
-
--- each arc of the rows is one that its edge gives in this direction
-abbrev pub AreAlong : Along → GraphData → Rows → Type 0
-AreAlong way graph rows = All (RunsAlong way graph) rows.by_head
-
--- each edge that is in one of the two views alone is told
-abbrev pub TellsAll : List Bool → List Bool → List EdgeNo → Type 0
-TellsAll old new turned = (e : ℕ) → e < length old → get_or old e false ≢ get_or new e false → Contains turned (edge e)
+use Rattle.vertex_lang.specs.declared.lone.Rounds.TheVariants as limits
+use Rattle.vertex_lang.specs.declared.lone.Outcome.TheVariants as outcomes
 
 -- the history of the new view in the rounds before this one
 pub record HasRounds (answer : Answer) (f : Frame) (r : ℕ) (h : History) : Type 0 where

@@ -1,40 +1,29 @@
 //! One step of a segment: the plain run of a view, found from that of the view before it.
 //!
 //! It stands on `vertex_lang`, whose plain runs its contracts speak of, and on `lone_work`, whose count of work it meets
-//! exactly. Of a view a [`History`] is kept: by round, which nodes changed and to which value, and which nodes got another
+//! exactly. What it keeps of arcs, messages, values and changes is in `arc_rows`, `message_forms`, `value_codes` and
+//! `change_lists`; what nodes send and get in a round, and which of them are looked at, in `round_messages`, `round_inputs` and
+//! `waiting_nodes`. Of a view a history is kept: by round, which nodes changed and to which value, and which nodes got another
 //! input than in the round before. [`first_step`] makes the history of the first view of a segment, and [`next_step`] that
 //! of a view from the history of the one before it; both answer the outcome of the plain run, how its last values differ,
-//! and the work, which is the number of calls of the updater. Differences are taken in order of rounds, and a node is
-//! evaluated exactly where the work counts it: rounds behind the last change of both views cost nothing. (Differences at
-//! pairs of a version and a round: McSherry, Murray, Isaacs and Isard 2013.)
+//! and the work, which is the number of calls of the updater. A [`Kernel`] holds the arcs, and what a step leaves to the next.
+//! Differences are taken in order of rounds, and a node is evaluated exactly where the work counts it: rounds behind the last
+//! change of both views cost nothing. (Differences at pairs of a version and a round: McSherry, Murray, Isaacs and Isard 2013.)
 #![tactic(auto)]
 
-mod aids;
-mod chained;
-mod codes;
-mod degrees;
-mod feed;
-mod history;
-mod live;
-mod message;
-mod numbers;
-mod past;
-mod queue;
+mod copies;
+mod frame;
+mod kernel;
+mod lookups;
 mod round;
-mod rows;
-mod sent;
 mod sorted;
-mod span;
+mod source;
 mod spare;
 mod step;
-mod tails;
-mod tally;
-mod told;
-mod turned;
+mod suspects;
 mod values;
 mod visit;
+mod waiting;
 
-pub use chained::ChainedLists;
-pub use history::{Change, History};
-pub use rows::Rows;
+pub use kernel::Kernel;
 pub use step::{Stepped, first_step, next_step};

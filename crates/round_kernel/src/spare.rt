@@ -2,13 +2,13 @@
 
 ghost use Rattle.std.specs.Prelude.{◌≡◌, length, IfOk};
 ghost use Rattle.graph_model.specs.GraphData.{GraphData};
-ghost use Rattle.round_kernel.specs.Counts.{ArePlain};
+ghost use Rattle.arc_rows.specs.Counts.{ArePlain};
 ghost use Rattle.round_kernel.specs.Spares.{IsSpare};
 
-use crate::degrees::Degrees;
-use crate::tally::Kept;
+use arc_rows::Degrees;
 use std::alloc::Global;
 use surge_outside::NoMemory;
+use value_codes::Kept;
 
 /// Lists with a place for each node, which are used again. Nothing is asked of what they hold, but that numbers are small.
 #[derive(Debug, Drop)]

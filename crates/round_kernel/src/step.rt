@@ -1,36 +1,37 @@
 //! The step from a view to the next.
 
-ghost use Rattle.std.specs.Prelude.{◌≡◌, ◌≢◌, ◌<◌, ◌≤◌, ◌+◌, ◌-◌, ◌++◌, ◌∷◌, [], ℕ, true, false, None, Some, length, get_or, All, Contains, IfOk, OnOk, IsTrue, IsFalse};
+ghost use Rattle.std.specs.Prelude.{◌≡◌, ◌≢◌, ◌<◌, ◌≤◌, ◌+◌, ◌-◌, ◌++◌, ◌∷◌, [], ℕ, true, false, None, Some, length, get_or, All, IfOk, OnOk, IsTrue, IsFalse};
 ghost use Rattle.vertex_lang.specs.Leaves.{IsChecked};
 ghost use Rattle.vertex_lang.specs.Lone.{number_of, answer_of};
 ghost use Rattle.vertex_lang.specs.Rounds.{lone};
 ghost use Rattle.lone_work.specs.Work.{work};
-ghost use Rattle.round_kernel.specs.Sides.{arcs_in};
-ghost use Rattle.round_kernel.specs.Counts.{AreBoth};
-ghost use Rattle.round_kernel.specs.Histories.{IsHistory, HasChanges, changes_from, all_from};
-ghost use Rattle.round_kernel.specs.Listings.{IsListed};
-ghost use Rattle.round_kernel.specs.RowLists.{AreRows};
+ghost use Rattle.arc_rows.specs.Views.{arcs_in, TellsAll};
+ghost use Rattle.arc_rows.specs.Counts.{AreBoth};
+ghost use Rattle.round_kernel.specs.Histories.{IsHistory};
+ghost use Rattle.change_lists.specs.ChangeLists.{changes_from, all_from};
+ghost use Rattle.arc_rows.specs.Listings.{IsListed};
+ghost use Rattle.arc_rows.specs.RowLists.{AreAlong};
+ghost use Rattle.round_kernel.specs.Kernels.{IsKernel};
 ghost use Rattle.round_kernel.specs.Rounds.{AreIdle};
-ghost use Rattle.round_kernel.specs.Frames.{AreStirred, IsFrame, StandAt, new_arcs, old_arcs, lone_at, was_touched_at, count_in, AreKept};
-ghost use Rattle.round_kernel.specs.Aiding.{StandsAided};
-ghost use Rattle.round_kernel.specs.Steps.{HasRounds, IsRun, outcome_of, TellsAll, AreAlong};
+ghost use Rattle.round_kernel.specs.Frames.{AreStirred, IsFrame, StandAt, new_arcs, old_arcs, was_touched_at, count_in, AreKept};
+ghost use Rattle.round_kernel.specs.Lookups.{StandLookups};
+ghost use Rattle.round_kernel.specs.Steps.{HasRounds, IsRun, outcome_of};
 
-use crate::aids::Aids;
-use crate::chained::ChainedLists;
-use crate::degrees::Degrees;
-use crate::history::{Change, History};
-use crate::past::{Listed, Past};
-use crate::round::{Frame, Lists, go_on, run_round};
-use crate::rows::Rows;
+use crate::frame::{Frame, Lists};
+use crate::kernel::Kernel;
+use crate::lookups::Lookups;
+use crate::round::{go_on, run_round};
 use crate::sorted::in_node_order;
+use crate::source::listed_in;
 use crate::spare::{Spare, kept_of};
-use crate::tally::Kept;
-use crate::values::{all_changes, changes_between};
 use crate::visit::Made;
+use arc_rows::{CachedArcs, Degrees, Listed};
+use change_lists::{ChainedLists, Change, History, all_changes, changes_between};
 use graph_model::{EdgeNo, Graph};
 use std::alloc::Global;
 use std::mem;
 use surge_outside::{List, NoMemory};
+use value_codes::Kept;
 use vertex_lang::{Outcome, Program, Rounds, Updater, arcs_of, names_outdeg};
 
 /// What a step gives.
@@ -51,35 +52,36 @@ pub fn first_step<U: Updater>(
     alloc: Global,
     program: &Program,
     graph: &Graph,
-    rows: &mut Rows,
+    kernel: &mut Kernel,
     edges: &[bool],
     rounds: Rounds,
     updater: &mut U,
 ) -> Result<Stepped, NoMemory>
     requires checked { IsChecked program.now graph.now }
-    requires rows { AreRows graph.now rows.old }
+    requires kernel { IsKernel graph.now kernel.old }
     requires edges { length edges.now ≡ length graph.now.ends }
     requires some { 1 ≤ number_of rounds }
     requires limit { number_of rounds ≤ 1_000_000 }
-    ensures rows { OnOk result (AreRows graph.now rows.new) }
-    ensures arcs { rows.new.by_head ≡ rows.old.by_head }
-    ensures history { IfOk result (λ s. IsHistory U.answer program.now graph.now (Some (arcs_in rows.old.by_head edges.now)) (number_of rounds) s.history) }
-    ensures outcome { IfOk result (λ s. s.outcome ≡ (answer_of U.answer program.now graph.now (arcs_in rows.old.by_head edges.now) rounds).outcome) }
-    ensures change { IfOk result (λ s. s.change ≡ all_from 0 (lone U.answer program.now graph.now (arcs_in rows.old.by_head edges.now) (number_of rounds))) }
-    ensures work { IfOk result (λ s. s.work ≡ work U.answer program.now graph.now (arcs_in rows.old.by_head edges.now) None (number_of rounds)) }
+    ensures kernel { OnOk result (IsKernel graph.now kernel.new) }
+    ensures rows { kernel.new.rows ≡ kernel.old.rows }
+    ensures history { IfOk result (λ s. IsHistory U.answer program.now graph.now (Some (arcs_in kernel.old.rows.by_head edges.now)) (number_of rounds) s.history) }
+    ensures outcome { IfOk result (λ s. s.outcome ≡ (answer_of U.answer program.now graph.now (arcs_in kernel.old.rows.by_head edges.now) rounds).outcome) }
+    ensures change { IfOk result (λ s. s.change ≡ all_from 0 (lone U.answer program.now graph.now (arcs_in kernel.old.rows.by_head edges.now) (number_of rounds))) }
+    ensures work { IfOk result (λ s. s.work ≡ work U.answer program.now graph.now (arcs_in kernel.old.rows.by_head edges.now) None (number_of rounds)) }
     ensures calls { IfOk result (λ s. U.calls updater.new ≡ U.calls updater.old + s.work) }
 {
     nodes_are_few(graph);
     let nothing = History::new(alloc);
     let none = vec![in alloc; false; edges.len()]?;
     let by_degree = names_outdeg(&program.send);
-    rows.past = Past::nothing(alloc);
-    let degrees = Degrees::counted(alloc, by_degree, graph, rows, &none, edges)?;
+    kernel.cached = CachedArcs::nothing(alloc);
+    kernel.spare = Spare::nothing(alloc);
+    let degrees = Degrees::counted(alloc, by_degree, graph, &kernel.rows, &none, edges)?;
     let kept = kept_of(alloc, Vec::new(alloc), graph.node_count())?;
     let frame = Frame {
         program,
         graph,
-        rows,
+        rows: &kernel.rows,
         first: true,
         old: &none,
         new: edges,
@@ -91,8 +93,8 @@ pub fn first_step<U: Updater>(
     let counted = degrees.kept(alloc, by_degree)?;
     let run = run_rounds(alloc, frame, degrees, Listed::Nothing, kept, updater)?;
     let change = all_changes(alloc, &run.lists.new_now)?;
-    let spare = Spare::of(run.kept, by_degree, run.lists.degrees());
-    rows.past = Past::of(alloc, edges, None, run.listed, counted, spare);
+    kernel.spare = Spare::of(run.kept, by_degree, run.lists.degrees());
+    kernel.cached = CachedArcs::of(alloc, edges, None, run.listed, counted);
     Ok(Stepped {
         outcome: outcome(&run.history, rounds),
         history: run.history,
@@ -107,7 +109,7 @@ pub fn next_step<U: Updater>(
     alloc: Global,
     program: &Program,
     graph: &Graph,
-    rows: &mut Rows,
+    kernel: &mut Kernel,
     history: &History,
     old: &[bool],
     new: &[bool],
@@ -116,33 +118,33 @@ pub fn next_step<U: Updater>(
     updater: &mut U,
 ) -> Result<Stepped, NoMemory>
     requires checked { IsChecked program.now graph.now }
-    requires rows { AreRows graph.now rows.old }
+    requires kernel { IsKernel graph.now kernel.old }
     requires old { length old.now ≡ length graph.now.ends }
     requires new { length new.now ≡ length graph.now.ends }
     requires some { 1 ≤ number_of rounds }
     requires limit { number_of rounds ≤ 1_000_000 }
-    requires along { AreAlong program.now.along graph.now rows.old }
+    requires along { AreAlong program.now.along graph.now kernel.old.rows }
     requires turned { All (λ e. e.0 < length graph.now.ends) turned.now }
     requires all_turned { TellsAll old.now new.now turned.now }
-    requires history { IsHistory U.answer program.now graph.now (Some (arcs_in rows.old.by_head old.now)) (number_of rounds) history.now }
-    ensures rows { OnOk result (AreRows graph.now rows.new) }
-    ensures arcs { rows.new.by_head ≡ rows.old.by_head }
-    ensures history { IfOk result (λ s. IsHistory U.answer program.now graph.now (Some (arcs_in rows.old.by_head new.now)) (number_of rounds) s.history) }
-    ensures outcome { IfOk result (λ s. s.outcome ≡ (answer_of U.answer program.now graph.now (arcs_in rows.old.by_head new.now) rounds).outcome) }
-    ensures change { IfOk result (λ s. s.change ≡ changes_from 0 (lone U.answer program.now graph.now (arcs_in rows.old.by_head old.now) (number_of rounds)) (lone U.answer program.now graph.now (arcs_in rows.old.by_head new.now) (number_of rounds))) }
-    ensures work { IfOk result (λ s. s.work ≡ work U.answer program.now graph.now (arcs_in rows.old.by_head new.now) (Some (arcs_in rows.old.by_head old.now)) (number_of rounds)) }
+    requires history { IsHistory U.answer program.now graph.now (Some (arcs_in kernel.old.rows.by_head old.now)) (number_of rounds) history.now }
+    ensures kernel { OnOk result (IsKernel graph.now kernel.new) }
+    ensures rows { kernel.new.rows ≡ kernel.old.rows }
+    ensures history { IfOk result (λ s. IsHistory U.answer program.now graph.now (Some (arcs_in kernel.old.rows.by_head new.now)) (number_of rounds) s.history) }
+    ensures outcome { IfOk result (λ s. s.outcome ≡ (answer_of U.answer program.now graph.now (arcs_in kernel.old.rows.by_head new.now) rounds).outcome) }
+    ensures change { IfOk result (λ s. s.change ≡ changes_from 0 (lone U.answer program.now graph.now (arcs_in kernel.old.rows.by_head old.now) (number_of rounds)) (lone U.answer program.now graph.now (arcs_in kernel.old.rows.by_head new.now) (number_of rounds))) }
+    ensures work { IfOk result (λ s. s.work ≡ work U.answer program.now graph.now (arcs_in kernel.old.rows.by_head new.now) (Some (arcs_in kernel.old.rows.by_head old.now)) (number_of rounds)) }
     ensures calls { IfOk result (λ s. U.calls updater.new ≡ U.calls updater.old + s.work) }
 {
     nodes_are_few(graph);
     let arcs = arcs_of(alloc, graph, program.along, turned)?;
     let by_degree = names_outdeg(&program.send);
-    let mut past = mem::replace(&mut rows.past, Past::nothing(alloc));
-    let spare = past.take_spare(alloc);
+    let cached = mem::replace(&mut kernel.cached, CachedArcs::nothing(alloc));
+    let spare = mem::replace(&mut kernel.spare, Spare::nothing(alloc));
     let kept = kept_of(alloc, spare.kept, graph.node_count())?;
-    let (listed, known, flags) = past.turned(
+    let (listed, known, flags) = cached.turned(
         alloc,
         graph,
-        rows,
+        &kernel.rows,
         old,
         new,
         arcs.as_slice(),
@@ -152,7 +154,7 @@ pub fn next_step<U: Updater>(
         alloc,
         by_degree,
         graph,
-        rows,
+        &kernel.rows,
         known,
         spare.degrees,
         old,
@@ -162,7 +164,7 @@ pub fn next_step<U: Updater>(
     let frame = Frame {
         program,
         graph,
-        rows,
+        rows: &kernel.rows,
         first: false,
         old,
         new,
@@ -179,8 +181,8 @@ pub fn next_step<U: Updater>(
         &run.lists.old_now,
         &run.lists.new_now,
     )?;
-    let spare = Spare::of(run.kept, by_degree, run.lists.degrees());
-    rows.past = Past::of(alloc, new, flags, run.listed, counted, spare);
+    kernel.spare = Spare::of(run.kept, by_degree, run.lists.degrees());
+    kernel.cached = CachedArcs::of(alloc, new, flags, run.listed, counted);
     Ok(Stepped {
         outcome: outcome(&run.history, rounds),
         history: run.history,
@@ -218,7 +220,7 @@ fn run_rounds<U: Updater>(
     ensures calls { IfOk result (λ run. U.calls updater.new ≡ U.calls updater.old + run.work) }
 {
     let mut lists = Lists::new(alloc, frame, degrees, updater)?;
-    let mut aids = Aids::new(alloc, frame, &lists, listed, updater)?;
+    let mut lookups = Lookups::new(alloc, frame, &lists, listed, updater)?;
     let mut history = History::beside(alloc, frame.history)?;
     let mut made = Made::new(alloc, frame.graph.node_count())?;
     let mut work = 0;
@@ -231,7 +233,7 @@ fn run_rounds<U: Updater>(
             &mut history,
             &mut lists,
             &mut kept,
-            &mut aids,
+            &mut lookups,
             &mut made,
             updater,
         )?;
@@ -242,7 +244,7 @@ fn run_rounds<U: Updater>(
     Ok(Run {
         history,
         lists,
-        listed: aids.feed.listed(frame, round, updater),
+        listed: listed_in(lookups.source, frame, round, updater),
         kept,
         work,
     })
@@ -265,7 +267,7 @@ fn run_one<U: Updater>(
     history: &mut History,
     lists: &mut Lists,
     kept: &mut [Kept],
-    aids: &mut Aids,
+    lookups: &mut Lookups,
     made: &mut Made,
     updater: &mut U,
 ) -> Result<u64, NoMemory>
@@ -277,8 +279,8 @@ fn run_one<U: Updater>(
     requires idle { AreIdle lists.old }
     requires kept_size { length kept.old ≡ count_in frame }
     requires kept { 0 < round → AreKept U.answer frame (round - 1) (was_touched_at U.answer frame round) kept.old }
-    requires aided { StandsAided U.answer frame round aids.old }
-    ensures aided { OnOk result (StandsAided U.answer frame.entry (round + 1) aids.new) }
+    requires lookups { StandLookups U.answer frame round lookups.old }
+    ensures lookups { OnOk result (StandLookups U.answer frame.entry (round + 1) lookups.new) }
     ensures history { OnOk result (HasRounds U.answer frame.entry (round + 1) history.new) }
     ensures at { OnOk result (StandAt U.answer frame.entry (round + 1) (was_touched_at U.answer frame.entry (round + 1)) lists.new) }
     ensures idle { OnOk result (AreIdle lists.new) }
@@ -290,7 +292,7 @@ fn run_one<U: Updater>(
     ensures calls { IfOk result (λ n. U.calls updater.new ≡ U.calls updater.old + n) }
 {
     let before = history.changes_before(round);
-    let work = run_round(alloc, frame, round, lists, kept, aids, made, updater)?;
+    let work = run_round(alloc, frame, round, lists, kept, lookups, made, updater)?;
     go_on(
         alloc,
         frame,
@@ -302,7 +304,7 @@ fn run_one<U: Updater>(
         lists,
         updater,
     );
-    aids.go_on(
+    lookups.go_on(
         frame,
         round,
         lists,
@@ -311,7 +313,14 @@ fn run_one<U: Updater>(
         made.stirred.as_slice(),
         updater,
     );
-    in_node_order(frame, round, lists, &aids.told, &mut made.changes, updater)?;
+    in_node_order(
+        frame,
+        round,
+        lists,
+        &lookups.suspects,
+        &mut made.changes,
+        updater,
+    )?;
     add_round(alloc, history, round, made, frame.graph.node_count())?;
     Ok(work)
 }

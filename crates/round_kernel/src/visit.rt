@@ -6,24 +6,26 @@ ghost use Rattle.vertex_lang.specs.Expressions.{start_of};
 ghost use Rattle.vertex_lang.specs.Rounds.{value_at, lone};
 ghost use Rattle.vertex_lang.specs.Lone.{same_value};
 ghost use Rattle.lone_work.specs.Work.{node_touched, node_counted, node_marked};
-ghost use Rattle.round_kernel.specs.Sides.{arcs_in, row_of, AreSent, IsRound};
-ghost use Rattle.round_kernel.specs.RowLists.{AreRows};
-ghost use Rattle.round_kernel.specs.Rounds.{old_view, was_touched};
-ghost use Rattle.round_kernel.specs.Aiding.{IsAided};
-ghost use Rattle.round_kernel.specs.Made.{mark_if, change_if};
-ghost use Rattle.round_kernel.specs.Tallies.{tally_of, kept_at};
+ghost use Rattle.arc_rows.specs.Views.{arcs_in};
+ghost use Rattle.round_messages.specs.Sides.{AreSent};
+ghost use Rattle.round_inputs.specs.Inputs.{IsRound};
+ghost use Rattle.arc_rows.specs.RowLists.{AreRows};
+ghost use Rattle.round_kernel.specs.Rounds.{old_view, was_touched, kept_at};
+ghost use Rattle.round_kernel.specs.Lookups.{AreLookups};
+ghost use Rattle.change_lists.specs.ChangeLists.{mark_if, change_if};
+ghost use Rattle.value_codes.specs.Tallies.{tally_of};
 ghost use Rattle.lone_work.specs.Inputs.{got_values};
 
-use crate::aids::Aids;
-use crate::history::Change;
-use crate::message::{Scratch, Side, differ, is_other};
-use crate::rows::Rows;
-use crate::tails::differ_if_listed;
-use crate::tally::{Kept, Tally};
-use crate::told::{Movers, stamp_of};
+use crate::lookups::Lookups;
+use crate::suspects::stamp_of;
+use arc_rows::Rows;
+use change_lists::{Change, is_other, push_change, push_mark};
 use graph_model::{Graph, NodeNo, Val};
+use round_inputs::{Movers, Scratch, differ, differ_if_listed};
+use round_messages::Side;
 use std::alloc::Global;
 use surge_outside::{List, NoMemory};
+use value_codes::{Kept, Tally};
 use vertex_lang::{Expr, Program, Updater};
 
 /// A node in a round, and what is known of it.
@@ -92,7 +94,7 @@ pub(crate) fn visit<U: Updater>(
     spot: Spot,
     touched: &mut bool,
     kept: &mut Kept,
-    aids: &Aids,
+    lookups: &Lookups,
     scratch: &mut Scratch,
     made: &mut Made,
     updater: &mut U,
@@ -110,7 +112,7 @@ pub(crate) fn visit<U: Updater>(
     requires touched { touched.old ≡ was_touched U.answer program.now graph.now rows.now.by_head spot.first sides.now.old.edges.now sides.now.new.edges.now spot.round spot.node.0 }
     requires new_sent { AreSent sides.now.new.alike program.now graph.now sides.now.new.degrees.now sides.now.new.values.now sides.now.new.sent.now }
     requires old_sent { AreSent sides.now.old.alike program.now graph.now sides.now.old.degrees.now sides.now.old.values.now sides.now.old.sent.now }
-    requires aided { IsAided U.answer program.now graph.now rows.now.by_head spot.first sides.now.old.edges.now sides.now.new.edges.now spot.round aids.now }
+    requires lookups { AreLookups U.answer program.now graph.now rows.now.by_head spot.first sides.now.old.edges.now sides.now.new.edges.now spot.round lookups.now }
     ensures touched { OnOk result (touched.new ≡ node_touched U.answer program.now graph.now (arcs_in rows.now.by_head sides.now.new.edges.now) (old_view spot.first rows.now.by_head sides.now.old.edges.now) spot.node.0 spot.round) }
     ensures kept { OnOk result (touched.new ≡ true → kept.new ≡ kept_at U.answer program.now graph.now (arcs_in rows.now.by_head sides.now.new.edges.now) spot.round spot.node.0) }
     ensures count { IfOk result (λ n. n ≡ (if node_counted U.answer program.now graph.now (arcs_in rows.now.by_head sides.now.new.edges.now) (old_view spot.first rows.now.by_head sides.now.old.edges.now) spot.node.0 spot.round then 1 else 0)) }
@@ -123,14 +125,14 @@ pub(crate) fn visit<U: Updater>(
 {
     let was = *touched;
     let is_touched = is_touched(
-        program, graph, rows, sides, spot, was, aids, scratch, updater,
+        program, graph, rows, sides, spot, was, lookups, scratch, updater,
     )?;
     *touched = is_touched;
     if !is_touched {
         return Ok(0);
     }
     visit_touched(
-        program, graph, rows, sides, spot, was, kept, aids, scratch, made, updater,
+        program, graph, rows, sides, spot, was, kept, lookups, scratch, made, updater,
     )
 }
 
@@ -144,7 +146,7 @@ fn visit_touched<U: Updater>(
     spot: Spot,
     was: bool,
     kept: &mut Kept,
-    aids: &Aids,
+    lookups: &Lookups,
     scratch: &mut Scratch,
     made: &mut Made,
     updater: &mut U,
@@ -161,7 +163,7 @@ fn visit_touched<U: Updater>(
     requires kept { 0 < spot.round → was ≡ true → kept.old ≡ kept_at U.answer program.now graph.now (arcs_in rows.now.by_head sides.now.new.edges.now) (spot.round - 1) spot.node.0 }
     requires touched { node_touched U.answer program.now graph.now (arcs_in rows.now.by_head sides.now.new.edges.now) (old_view spot.first rows.now.by_head sides.now.old.edges.now) spot.node.0 spot.round ≡ true }
     requires new_sent { AreSent sides.now.new.alike program.now graph.now sides.now.new.degrees.now sides.now.new.values.now sides.now.new.sent.now }
-    requires aided { IsAided U.answer program.now graph.now rows.now.by_head spot.first sides.now.old.edges.now sides.now.new.edges.now spot.round aids.now }
+    requires lookups { AreLookups U.answer program.now graph.now rows.now.by_head spot.first sides.now.old.edges.now sides.now.new.edges.now spot.round lookups.now }
     ensures kept { OnOk result (kept.new ≡ kept_at U.answer program.now graph.now (arcs_in rows.now.by_head sides.now.new.edges.now) spot.round spot.node.0) }
     ensures count { IfOk result (λ n. n ≡ (if node_counted U.answer program.now graph.now (arcs_in rows.now.by_head sides.now.new.edges.now) (old_view spot.first rows.now.by_head sides.now.old.edges.now) spot.node.0 spot.round then 1 else 0)) }
     ensures marks { OnOk result (made.new.marks ≡ made.old.marks ++ mark_if (node_marked U.answer program.now graph.now (Some (arcs_in rows.now.by_head sides.now.new.edges.now)) spot.node.0 spot.round) spot.node) }
@@ -170,10 +172,12 @@ fn visit_touched<U: Updater>(
     ensures calls { IfOk result (λ n. U.calls updater.new ≡ U.calls updater.old + n) }
 {
     if is_new_input(program, graph, rows, sides, spot, was, updater) {
-        return visit_marked(program, graph, rows, sides, spot, kept, aids, made, updater);
+        return visit_marked(
+            program, graph, rows, sides, spot, kept, lookups, made, updater,
+        );
     }
     visit_again(
-        program, graph, rows, sides, spot, was, kept, aids, scratch, made, updater,
+        program, graph, rows, sides, spot, was, kept, lookups, scratch, made, updater,
     )
 }
 
@@ -185,7 +189,7 @@ fn visit_marked<U: Updater>(
     sides: &Sides<'_>,
     spot: Spot,
     kept: &mut Kept,
-    aids: &Aids,
+    lookups: &Lookups,
     made: &mut Made,
     updater: &mut U,
 ) -> Result<u64, NoMemory>
@@ -198,7 +202,7 @@ fn visit_marked<U: Updater>(
     requires marked { node_marked U.answer program.now graph.now (Some (arcs_in rows.now.by_head sides.now.new.edges.now)) spot.node.0 spot.round ≡ true }
     requires touched { node_touched U.answer program.now graph.now (arcs_in rows.now.by_head sides.now.new.edges.now) (old_view spot.first rows.now.by_head sides.now.old.edges.now) spot.node.0 spot.round ≡ true }
     requires new_sent { AreSent sides.now.new.alike program.now graph.now sides.now.new.degrees.now sides.now.new.values.now sides.now.new.sent.now }
-    requires aided { IsAided U.answer program.now graph.now rows.now.by_head spot.first sides.now.old.edges.now sides.now.new.edges.now spot.round aids.now }
+    requires lookups { AreLookups U.answer program.now graph.now rows.now.by_head spot.first sides.now.old.edges.now sides.now.new.edges.now spot.round lookups.now }
     ensures kept { OnOk result (kept.new ≡ kept_at U.answer program.now graph.now (arcs_in rows.now.by_head sides.now.new.edges.now) spot.round spot.node.0) }
     ensures count { IfOk result (λ n. n ≡ (if node_counted U.answer program.now graph.now (arcs_in rows.now.by_head sides.now.new.edges.now) (old_view spot.first rows.now.by_head sides.now.old.edges.now) spot.node.0 spot.round then 1 else 0)) }
     ensures marks { OnOk result (made.new.marks ≡ made.old.marks ++ mark_if (node_marked U.answer program.now graph.now (Some (arcs_in rows.now.by_head sides.now.new.edges.now)) spot.node.0 spot.round) spot.node) }
@@ -206,7 +210,7 @@ fn visit_marked<U: Updater>(
         OnOk result (made.new.changes ≡ made.old.changes ++ change_if (not (same_value (value_at (values (spot.round + 1)) spot.node.0) (value_at (values spot.round) spot.node.0))) spot.node (value_at (values (spot.round + 1)) spot.node.0)) }
     ensures calls { IfOk result (λ n. U.calls updater.new ≡ U.calls updater.old + n) }
 {
-    let tally = aids.feed.tally(
+    let tally = lookups.source.tally(
         program, graph, rows, &sides.new, spot.node, spot.round, updater,
     );
     *kept = tally.kept();
@@ -235,7 +239,7 @@ fn visit_again<U: Updater>(
     spot: Spot,
     was: bool,
     kept: &mut Kept,
-    aids: &Aids,
+    lookups: &Lookups,
     scratch: &mut Scratch,
     made: &mut Made,
     updater: &mut U,
@@ -253,7 +257,7 @@ fn visit_again<U: Updater>(
     requires kept { 0 < spot.round → was ≡ true → kept.old ≡ kept_at U.answer program.now graph.now (arcs_in rows.now.by_head sides.now.new.edges.now) (spot.round - 1) spot.node.0 }
     requires touched { node_touched U.answer program.now graph.now (arcs_in rows.now.by_head sides.now.new.edges.now) (old_view spot.first rows.now.by_head sides.now.old.edges.now) spot.node.0 spot.round ≡ true }
     requires new_sent { AreSent sides.now.new.alike program.now graph.now sides.now.new.degrees.now sides.now.new.values.now sides.now.new.sent.now }
-    requires aided { IsAided U.answer program.now graph.now rows.now.by_head spot.first sides.now.old.edges.now sides.now.new.edges.now spot.round aids.now }
+    requires lookups { AreLookups U.answer program.now graph.now rows.now.by_head spot.first sides.now.old.edges.now sides.now.new.edges.now spot.round lookups.now }
     ensures kept { OnOk result (kept.new ≡ kept_at U.answer program.now graph.now (arcs_in rows.now.by_head sides.now.new.edges.now) spot.round spot.node.0) }
     ensures count { IfOk result (λ n. n ≡ (if node_counted U.answer program.now graph.now (arcs_in rows.now.by_head sides.now.new.edges.now) (old_view spot.first rows.now.by_head sides.now.old.edges.now) spot.node.0 spot.round then 1 else 0)) }
     ensures marks { OnOk result (made.new.marks ≡ made.old.marks ++ mark_if (node_marked U.answer program.now graph.now (Some (arcs_in rows.now.by_head sides.now.new.edges.now)) spot.node.0 spot.round) spot.node) }
@@ -261,12 +265,12 @@ fn visit_again<U: Updater>(
         OnOk result (made.new.changes ≡ made.old.changes ++ change_if (not (same_value (value_at (values (spot.round + 1)) spot.node.0) (value_at (values spot.round) spot.node.0))) spot.node (value_at (values (spot.round + 1)) spot.node.0)) }
     ensures calls { IfOk result (λ n. U.calls updater.new ≡ U.calls updater.old + n) }
 {
-    let tally = aids.feed.tally(
+    let tally = lookups.source.tally(
         program, graph, rows, &sides.new, spot.node, spot.round, updater,
     );
     let now = tally.kept();
     let marked = is_marked(
-        program, graph, rows, sides, spot, was, *kept, now, aids, scratch, updater,
+        program, graph, rows, sides, spot, was, *kept, now, lookups, scratch, updater,
     )?;
     *kept = now;
     push_mark(&mut made.marks, marked, spot.node)?;
@@ -319,7 +323,7 @@ fn is_touched<U: Updater>(
     sides: &Sides<'_>,
     spot: Spot,
     touched: bool,
-    aids: &Aids,
+    lookups: &Lookups,
     scratch: &mut Scratch,
     updater: &U,
 ) -> Result<bool, NoMemory>
@@ -331,17 +335,27 @@ fn is_touched<U: Updater>(
     requires touched { touched ≡ was_touched U.answer program.now graph.now rows.now.by_head spot.first sides.now.old.edges.now sides.now.new.edges.now spot.round spot.node.0 }
     requires new_sent { AreSent sides.now.new.alike program.now graph.now sides.now.new.degrees.now sides.now.new.values.now sides.now.new.sent.now }
     requires old_sent { AreSent sides.now.old.alike program.now graph.now sides.now.old.degrees.now sides.now.old.values.now sides.now.old.sent.now }
-    requires aided { IsAided U.answer program.now graph.now rows.now.by_head spot.first sides.now.old.edges.now sides.now.new.edges.now spot.round aids.now }
+    requires lookups { AreLookups U.answer program.now graph.now rows.now.by_head spot.first sides.now.old.edges.now sides.now.new.edges.now spot.round lookups.now }
     ensures { IfOk result (λ b. b ≡ node_touched U.answer program.now graph.now (arcs_in rows.now.by_head sides.now.new.edges.now) (old_view spot.first rows.now.by_head sides.now.old.edges.now) spot.node.0 spot.round) }
 {
     if either(spot.first, touched) {
         return Ok(true);
     }
-    let turned = aids.told.turned_into(spot.node);
-    let movers = Movers::Views(&aids.told.apart);
+    let turned = lookups.suspects.turned_into(spot.node);
+    let movers = Movers::Views(&lookups.suspects.apart);
     let listed = differ_if_listed(
-        program, graph, rows, &aids.feed, &sides.new, &sides.old, turned, movers, spot.node,
-        spot.round, scratch, updater,
+        program,
+        graph,
+        rows,
+        &lookups.source,
+        &sides.new,
+        &sides.old,
+        turned,
+        movers,
+        spot.node,
+        spot.round,
+        scratch,
+        updater,
     )?;
     if let Some(active) = listed {
         return Ok(active);
@@ -367,7 +381,7 @@ fn is_marked<U: Updater>(
     was: bool,
     kept: Kept,
     now: Kept,
-    aids: &Aids,
+    lookups: &Lookups,
     scratch: &mut Scratch,
     updater: &U,
 ) -> Result<bool, NoMemory>
@@ -381,13 +395,13 @@ fn is_marked<U: Updater>(
     requires kept { 0 < spot.round → was ≡ true → kept ≡ kept_at U.answer program.now graph.now (arcs_in rows.now.by_head sides.now.new.edges.now) (spot.round - 1) spot.node.0 }
     requires now { now ≡ kept_at U.answer program.now graph.now (arcs_in rows.now.by_head sides.now.new.edges.now) spot.round spot.node.0 }
     requires new_sent { AreSent sides.now.new.alike program.now graph.now sides.now.new.degrees.now sides.now.new.values.now sides.now.new.sent.now }
-    requires aided { IsAided U.answer program.now graph.now rows.now.by_head spot.first sides.now.old.edges.now sides.now.new.edges.now spot.round aids.now }
+    requires lookups { AreLookups U.answer program.now graph.now rows.now.by_head spot.first sides.now.old.edges.now sides.now.new.edges.now spot.round lookups.now }
     ensures { IfOk result (λ b. b ≡ node_marked U.answer program.now graph.now (Some (arcs_in rows.now.by_head sides.now.new.edges.now)) spot.node.0 spot.round) }
 {
     if was && kept.differs(now) {
         return Ok(true);
     }
-    is_other_input(program, graph, rows, sides, spot, aids, scratch, updater)
+    is_other_input(program, graph, rows, sides, spot, lookups, scratch, updater)
 }
 
 // Whether the input of a node differs from that of the round before, in the new view, found by a look at all its arcs. The node's own
@@ -398,7 +412,7 @@ fn is_other_input<U: Updater>(
     rows: &Rows,
     sides: &Sides<'_>,
     spot: Spot,
-    aids: &Aids,
+    lookups: &Lookups,
     scratch: &mut Scratch,
     updater: &U,
 ) -> Result<bool, NoMemory>
@@ -408,14 +422,14 @@ fn is_other_input<U: Updater>(
     requires new { IsRound U.answer program.now graph.now rows.now.by_head sides.now.new.edges.now sides.now.new.degrees.now sides.now.new.values.now spot.round }
     requires before { IsRound U.answer program.now graph.now rows.now.by_head sides.now.new.edges.now sides.now.new.degrees.now sides.now.before.now (spot.round - 1) }
     requires new_sent { AreSent sides.now.new.alike program.now graph.now sides.now.new.degrees.now sides.now.new.values.now sides.now.new.sent.now }
-    requires aided { IsAided U.answer program.now graph.now rows.now.by_head spot.first sides.now.old.edges.now sides.now.new.edges.now spot.round aids.now }
+    requires lookups { AreLookups U.answer program.now graph.now rows.now.by_head spot.first sides.now.old.edges.now sides.now.new.edges.now spot.round lookups.now }
     ensures { IfOk result (λ b. b ≡ node_marked U.answer program.now graph.now (Some (arcs_in rows.now.by_head sides.now.new.edges.now)) spot.node.0 spot.round) }
 {
     if spot.round == 0 {
         return Ok(true);
     }
     let place = spot.node.0 as usize;
-    let movers = Movers::Rounds(&aids.told.moved, stamp_of(spot.round));
+    let movers = Movers::Rounds(&lookups.suspects.moved, stamp_of(spot.round));
     if movers.moves(spot.node) && is_other(sides.new.values[place], sides.before[place]) {
         return Ok(true);
     }
@@ -430,7 +444,7 @@ fn is_other_input<U: Updater>(
         program,
         graph,
         rows,
-        &aids.feed,
+        &lookups.source,
         &sides.new,
         &before,
         &[],
@@ -499,31 +513,6 @@ fn start_at(program: &Program, _graph: &Graph, starts: &[Val], node: NodeNo) -> 
         Expr::Number(number) => Val::Num(*number),
         _ => starts[node.0 as usize],
     }
-}
-
-// Adds a node to the marks where it has one.
-fn push_mark(marks: &mut List<NodeNo>, marked: bool, node: NodeNo) -> Result<(), NoMemory>
-    ensures { OnOk result (marks.new ≡ marks.old ++ mark_if marked node) }
-{
-    if marked {
-        marks.push(node)?;
-    }
-    Ok(())
-}
-
-/// Adds a change where there is one.
-pub(crate) fn push_change(
-    changes: &mut List<Change>,
-    changed: bool,
-    node: NodeNo,
-    value: Val,
-) -> Result<(), NoMemory>
-    ensures { OnOk result (changes.new ≡ changes.old ++ change_if changed node value) }
-{
-    if changed {
-        changes.push(Change { node, value })?;
-    }
-    Ok(())
 }
 
 // Whether one of them holds.

@@ -8,7 +8,7 @@ use Rattle.vertex_lang.specs.declared.program.Along.{Along}
 use Rattle.vertex_lang.specs.Expressions.{Answer}
 use Rattle.vertex_lang.specs.Leaves.{IsChecked}
 use Rattle.vertex_lang.specs.Lone.{number_of}
-use Rattle.round_kernel.specs.declared.rows.Rows.{Rows}
+use Rattle.round_kernel.specs.declared.kernel.Kernel.{Kernel}
 use Rattle.segment_split.specs.declared.SplitRule.{SplitRule}
 use Rattle.segment_split.specs.declared.SplitRule.TheVariants as split
 use Rattle.view_matrix.specs.Matrices.{MatrixData, IsView}
@@ -19,7 +19,7 @@ use Rattle.view_segment.specs.Segments.{IsFinished, SegmentStands}
 use Rattle.view_segment.specs.Tasks.{Task}
 use Rattle.view_engine.specs.declared.engine.Engine.{Engine}
 use Rattle.view_engine.specs.Splits.{segments_of}
-use Rattle.view_engine.specs.Engines.{segments_in, stepped_in, assigned_of, task_of, works_in, views_in, KeepsLater, IsInOrder, HoldsView, AreRowsOf, AreFinished, AllowsSplit, IsSound, IsEngine, IsSameRun, Stands}
+use Rattle.view_engine.specs.Engines.{segments_in, stepped_in, assigned_of, task_of, works_in, views_in, KeepsLater, IsInOrder, HoldsView, IsKernelOf, AreFinished, AllowsSplit, IsSound, IsEngine, IsSameRun, Stands}
 use Rattle.view_engine.specs.Assigning.{AreReadyFor, SoFar, IsFilled, filled_to}
 use Rattle.view_engine.proofs.Assigning.{take_map, take_front}
 use Rattle.view_engine.proofs.Moving.{stands_of, so_far_of}
@@ -41,9 +41,9 @@ order_none split.Auto ss is = λ i s low at. absurd (omega (arith, low, ap lengt
 order_none split.Whole ss is = tt
 order_none (split.Every n) ss is = tt
 
-ready_none : (graph : GraphData) (along : Along) (o : Option Rows) → o ≡ None → AreRowsOf graph along o
+ready_none : (graph : GraphData) (along : Along) (o : Option Kernel) → o ≡ None → IsKernelOf graph along o
 ready_none graph along None is = tt
-ready_none graph along (Some rows) is = absurd cc
+ready_none graph along (Some kernel) is = absurd cc
 
 all_none : {A : Type 0} (P : A → Type 0) (xs : List A) → xs ≡ [] → All P xs
 all_none P xs is k d low = absurd (omega (arith, low, ap length is))
@@ -56,7 +56,7 @@ pub record IsFirst (e : Engine) : Type 0 where
   pub segments : segments_in e ≡ []
   pub held : e.results.held ≡ []
   pub nodes : e.results.nodes ≡ length e.graph.now.ids
-  pub rows : e.rows ≡ None
+  pub kernel : e.kernel ≡ None
   pub assigned : e.assigned ≡ 0
   pub later : e.later ≡ 0
 
@@ -68,7 +68,7 @@ module _ (e : Engine) (first : IsFirst e) where
     limit = limit;
     few_nodes = few_nodes;
     split = split;
-    ready = ready_none e.graph.now e.program.now.along e.rows first.rows;
+    ready = ready_none e.graph.now e.program.now.along e.kernel first.kernel;
     few = few;
     assigned = first.assigned ∙ sym (ap (sum_by (λ (s : Segment). length s.views)) first.segments);
     within = omega (arith, first.assigned);

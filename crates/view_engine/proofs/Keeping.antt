@@ -9,8 +9,8 @@ use Rattle.graph_model.specs.declared.number.ViewNo.{ViewNo}
 use Rattle.graph_model.specs.declared.value.Val.{Val}
 use Rattle.vertex_lang.specs.Lone.{same_value}
 use Rattle.multisets.specs.Multisets.{IsExact}
-use Rattle.round_kernel.specs.declared.history.Change.{Change}
-use Rattle.round_kernel.specs.Histories.{all_from, changes_from}
+use Rattle.change_lists.specs.declared.history.Change.{Change}
+use Rattle.change_lists.specs.ChangeLists.{all_from, changes_from}
 use Rattle.result_tables.specs.Results.{Held, ResultsData, held_on, assigned}
 use Rattle.view_engine.proofs.Putting.{all_cons}
 

@@ -16,8 +16,8 @@ use Rattle.vertex_lang.specs.GatherLaws.{values-exact}
 use Rattle.vertex_lang.specs.Lone.{number_of}
 use Rattle.vertex_lang.specs.RoundLaws.{length-lone}
 use Rattle.lone_work.specs.CountLaws.{work-is-bounded}
-use Rattle.round_kernel.specs.declared.history.Change.{Change}
-use Rattle.round_kernel.specs.declared.rows.Rows.{Rows}
+use Rattle.change_lists.specs.declared.history.Change.{Change}
+use Rattle.round_kernel.specs.declared.kernel.Kernel.{Kernel}
 use Rattle.segment_split.specs.declared.SplitRule.{SplitRule}
 use Rattle.segment_split.specs.declared.SplitRule.TheVariants as split
 use Rattle.view_matrix.specs.Matrices.{MatrixData}
@@ -29,7 +29,7 @@ use Rattle.view_segment.specs.Segments.{last_of, stepped, last_stepped, last_val
 use Rattle.view_segment.specs.Tasks.{lone_of, view_arcs, arcs_before, work_of}
 use Rattle.view_engine.specs.declared.engine.Engine.{Engine}
 use Rattle.view_engine.specs.Splits.{later_edges, segments_of}
-use Rattle.view_engine.specs.Engines.{segments_in, assigned_in, stepped_in, assigned_of, task_of, views_in, last_views, work_in, KeepsLater, IsInOrder, HoldsView, AreRowsOf, IsSound, IsEngine, Stands, HasMoved}
+use Rattle.view_engine.specs.Engines.{segments_in, assigned_in, stepped_in, assigned_of, task_of, views_in, last_views, work_in, KeepsLater, IsInOrder, HoldsView, IsKernelOf, IsSound, IsEngine, Stands, HasMoved}
 use Rattle.view_engine.specs.Assigning.{AreReadyFor, SoFar, HasStepped, IsFilled, filled_to}
 use Rattle.view_engine.proofs.Putting.{all_at, all_cons}
 use Rattle.view_engine.proofs.Assigning.{take_next, take_map}
@@ -180,7 +180,7 @@ module _ (answer : Answer) (m : MatrixData) (e : Engine) (engine : IsEngine e) (
 
       -- ---- the engine behind the step
 
-      module _ (segments : Vec Segment Global) (rows : Option Rows) (results : ResultsData) (put_in : segments.items ≡ set (segments_in e) k t)
+      module _ (segments : Vec Segment Global) (kernel : Option Kernel) (results : ResultsData) (put_in : segments.items ≡ set (segments_in e) k t)
           (kept : results ≡ with_answer e.results given.view given.before given.outcome (map pair_of given.change)) where
         each_now : All (SegmentStands (task_of answer m e)) segments.items
         each_now = rw put_in (set_all (SegmentStands (task_of answer m e)) t behind (segments_in e) k stands.each)
@@ -191,12 +191,12 @@ module _ (answer : Answer) (m : MatrixData) (e : Engine) (engine : IsEngine e) (
         pub stepped_now : sum_by (λ (s : Segment). length s.works) segments.items ≡ stepped_in e + 1
         stepped_now = ap (sum_by (λ (s : Segment). length s.works)) put_in ∙ stepped_set s t same (segments_in e) k one_longer at
 
-        ready_by : (rule : SplitRule) → assigned_in e ≡ assigned_of rule (length e.order) (stepped_in e) → AreReadyFor rule (record e { segments = segments; rows = rows; results = results })
+        ready_by : (rule : SplitRule) → assigned_in e ≡ assigned_of rule (length e.order) (stepped_in e) → AreReadyFor rule (record e { segments = segments; kernel = kernel; results = results })
         ready_by split.Auto by = all_finished segments.items (λ i d low. (each_now i d low).few) (omega (arith, by, count_now, stepped_now))
         ready_by split.Whole by = tt
         ready_by (split.Every n) by = tt
 
-        order_by : (rule : SplitRule) → AreReadyFor rule (record e { segments = segments; rows = rows; results = results }) → IsInOrder rule segments.items
+        order_by : (rule : SplitRule) → AreReadyFor rule (record e { segments = segments; kernel = kernel; results = results }) → IsInOrder rule segments.items
         order_by split.Auto ready = λ i x low there. all_at IsFinished segments.items ready i x there
         order_by split.Whole ready = tt
         order_by (split.Every n) ready = tt
@@ -206,7 +206,7 @@ module _ (answer : Answer) (m : MatrixData) (e : Engine) (engine : IsEngine e) (
         later_by split.Whole keeps = tt
         later_by (split.Every n) keeps = tt
 
-        pub so_far_now : SoFar answer m (record e { segments = segments; rows = rows; results = results })
+        pub so_far_now : SoFar answer m (record e { segments = segments; kernel = kernel; results = results })
         so_far_now = record {
           matrix = stands.matrix;
           views = stands.views;
@@ -238,8 +238,8 @@ module _ (answer : Answer) (m : MatrixData) (e : Engine) (engine : IsEngine e) (
                   (all_cons (λ (n : ℕ). n ≤ 1_000_000_000_000) work [] small (λ i d low. absurd (omega arith))));
             }
 
-        pub engine_now : work ≡ work_of (task_of answer m e) (last_stepped s) given.view.0 → AreRowsOf e.graph.now e.program.now.along rows
-            → IsEngine (record e { segments = segments; rows = rows; results = results })
+        pub engine_now : work ≡ work_of (task_of answer m e) (last_stepped s) given.view.0 → IsKernelOf e.graph.now e.program.now.along kernel
+            → IsEngine (record e { segments = segments; kernel = kernel; results = results })
         engine_now its ready = record {
           checked = engine.checked;
           some = engine.some;
@@ -257,7 +257,7 @@ module _ (answer : Answer) (m : MatrixData) (e : Engine) (engine : IsEngine e) (
           nodes = ap (λ (r : ResultsData). r.nodes) kept ∙ engine.nodes;
         }
 
-        pub has_stepped : (calls_before calls_after : ℕ) → calls_after ≡ calls_before + work → HasStepped k e (record e { segments = segments; rows = rows; results = results }) calls_before calls_after
+        pub has_stepped : (calls_before calls_after : ℕ) → calls_after ≡ calls_before + work → HasStepped k e (record e { segments = segments; kernel = kernel; results = results }) calls_before calls_after
         has_stepped calls_before calls_after calls = record {
           moved = record {
             run = record { graph = refl; program = refl; rounds = refl; split = refl };

@@ -4,7 +4,7 @@ use Rattle.std.specs.List.{sum_by}
 use Rattle.std.proofs.lemmas.List.{map-append}
 use Rattle.std.proofs.lemmas.List.Sums.{sum_by-cons}
 use Rattle.graph_model.specs.declared.number.ViewNo.{ViewNo}
-use Rattle.round_kernel.specs.declared.history.History.{History}
+use Rattle.change_lists.specs.declared.history.History.{History}
 use Rattle.segment_split.specs.declared.SplitRule.{SplitRule}
 use Rattle.segment_split.specs.Rule.{starts_new}
 use Rattle.view_order.specs.Greedy.{numbers}

@@ -7,9 +7,9 @@ use Rattle.vertex_lang.specs.declared.program.Along.{Along}
 use Rattle.vertex_lang.specs.Expressions.{Answer}
 use Rattle.vertex_lang.specs.Leaves.{IsChecked}
 use Rattle.vertex_lang.specs.Lone.{number_of}
-use Rattle.round_kernel.specs.declared.rows.Rows.{Rows}
-use Rattle.round_kernel.specs.RowLists.{AreRows}
-use Rattle.round_kernel.specs.Steps.{AreOfAll}
+use Rattle.round_kernel.specs.declared.kernel.Kernel.{Kernel}
+use Rattle.round_kernel.specs.Kernels.{IsKernel}
+use Rattle.arc_rows.specs.RowLists.{AreOfAll}
 use Rattle.segment_split.specs.declared.SplitRule.{SplitRule}
 use Rattle.segment_split.specs.declared.SplitRule.TheVariants as split
 use Rattle.view_matrix.specs.Matrices.{MatrixData, IsView}
@@ -102,10 +102,10 @@ work_at e v = work_in (segments_in e) v
 
 -- ---- what holds
 
--- the working lists, if there are any, are those of the graph in this direction
-abbrev pub AreRowsOf : GraphData → Along → Option Rows → Type 0
-AreRowsOf graph along None = ⊤
-AreRowsOf graph along (Some rows) = AreRows graph rows × AreOfAll along graph rows
+-- the kernel, if there is one, is of the graph in this direction
+abbrev pub IsKernelOf : GraphData → Along → Option Kernel → Type 0
+IsKernelOf graph along None = ⊤
+IsKernelOf graph along (Some kernel) = IsKernel graph kernel × AreOfAll along graph kernel.rows
 
 -- An engine stands for a matrix: its segments are those of the split, each holds what its views ask, and the results hold
 -- exactly the views that were stepped.
@@ -134,7 +134,7 @@ pub record IsEngine (e : Engine) : Type 0 where
   pub limit : number_of e.rounds ≤ 1_000_000
   pub few_nodes : length e.graph.now.ids ≤ 1_000_000
   pub split : AllowsSplit e.split
-  pub ready : AreRowsOf e.graph.now e.program.now.along e.rows
+  pub ready : IsKernelOf e.graph.now e.program.now.along e.kernel
   pub few : length e.order ≤ 1_024
   pub assigned : e.assigned ≡ assigned_in e
   pub within : e.assigned ≤ length e.order

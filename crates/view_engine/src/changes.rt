@@ -2,8 +2,8 @@
 
 ghost use Rattle.std.specs.Prelude.{◌≡◌, map, IfOk};
 
+use change_lists::Change;
 use graph_model::{NodeNo, Val};
-use round_kernel::Change;
 use std::alloc::Global;
 use surge_outside::{List, NoMemory};
 

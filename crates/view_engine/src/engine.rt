@@ -9,14 +9,14 @@ ghost use Rattle.vertex_lang.specs.Lone.{number_of};
 ghost use Rattle.view_matrix.specs.Matrices.{MatrixData, IsView};
 ghost use Rattle.view_segment.specs.Segments.{IsFinished};
 ghost use Rattle.view_engine.specs.Assigning.{AreReadyFor, SoFar, IsAssigned, IsFilled, HasStepped};
-ghost use Rattle.view_engine.specs.Engines.{AllowsSplit, IsEngine, AreRowsOf, Stands, AreFinished, IsSameRun, HasMoved, IsResult, task_of, works_in, segment_at, work_at, work_beside, work_in};
+ghost use Rattle.view_engine.specs.Engines.{AllowsSplit, IsEngine, IsKernelOf, Stands, AreFinished, IsSameRun, HasMoved, IsResult, task_of, works_in, segment_at, work_at, work_beside, work_in};
 
 use crate::changes::pairs;
 use crate::counting::decide;
 use crate::placing::put;
 use graph_model::{Graph, ViewNo};
 use result_tables::{Results, Table};
-use round_kernel::Rows;
+use round_kernel::Kernel;
 use segment_split::SplitRule;
 use std::alloc::Global;
 use surge_outside::{List, NoMemory};
@@ -46,7 +46,7 @@ pub struct Engine<'g> {
     order: List<ViewNo>,
     segments: Vec<Segment>,
     results: Results,
-    rows: Option<Rows>,
+    kernel: Option<Kernel>,
     assigned: usize,
     later: u64,
     spent: bool,
@@ -90,7 +90,7 @@ impl<'g> Engine<'g> {
             order: copied(alloc, order)?,
             segments: Vec::new(alloc),
             results: Results::new(alloc, graph.node_count()),
-            rows: None,
+            kernel: None,
             assigned: 0,
             later: 0,
             spent: false,
@@ -229,17 +229,17 @@ impl<'g> Engine<'g> {
         ensures moved { OnOk result (HasStepped segment self.old self.new (U.calls updater.old) (U.calls updater.new)) }
         ensures stands { OnOk result (SoFar U.answer matrix.now self.new) }
     {
-        let mut rows = take_rows(self.alloc, &mut self.rows, self.graph, self.program.along)?;
+        let mut kernel = take_kernel(self.alloc, &mut self.kernel, self.graph, self.program.along)?;
         let given = self.segments[segment].step(
             self.alloc,
             self.graph,
             self.program,
             self.rounds,
             matrix,
-            &mut rows,
+            &mut kernel,
             updater,
         )?;
-        self.rows = Some(rows);
+        self.kernel = Some(kernel);
         let change = pairs(self.alloc, &given.change)?;
         self.results
             .add_change(given.view, given.before, given.outcome, &change)
@@ -320,7 +320,7 @@ impl<'g> Engine<'g> {
         ensures spent { self.new.spent ≡ self.old.spent }
         ensures stands { (answer : Answer) (m : MatrixData) → Stands answer m self.old → Stands answer m self.new }
     {
-        self.rows = None;
+        self.kernel = None;
     }
 
     /// The number of the segment of a view, from 0; none where it isn't in the order or has no segment yet.
@@ -355,19 +355,19 @@ impl<'g> Engine<'g> {
     }
 }
 
-// The working lists, which are made where there are none.
-fn take_rows(
+// The kernel, which is made where there is none.
+fn take_kernel(
     alloc: Global,
-    rows: &mut Option<Rows>,
+    kernel: &mut Option<Kernel>,
     graph: &Graph,
     along: Along,
-) -> Result<Rows, NoMemory>
-    requires { AreRowsOf graph.now along rows.old }
-    ensures { IfOk result (λ rows. AreRowsOf graph.now along (Some rows)) }
+) -> Result<Kernel, NoMemory>
+    requires { IsKernelOf graph.now along kernel.old }
+    ensures { IfOk result (λ kernel. IsKernelOf graph.now along (Some kernel)) }
 {
-    match rows.take() {
-        Some(rows) => Ok(rows),
-        None => Rows::new(alloc, graph, along),
+    match kernel.take() {
+        Some(kernel) => Ok(kernel),
+        None => Kernel::new(alloc, graph, along),
     }
 }
 

@@ -18,11 +18,12 @@ use Rattle.vertex_lang.specs.declared.program.Along.{Along}
 use Rattle.vertex_lang.specs.declared.program.Along.TheVariants as along
 use Rattle.vertex_lang.specs.Arcs.{arcs_between, arcs_of_edge, forward, backward}
 use Rattle.vertex_lang.specs.ExtremeLaws.{contains-here, contains-there, contains-none, contains-cases}
-use Rattle.round_kernel.specs.declared.rows.Rows.{Rows}
-use Rattle.round_kernel.specs.RowLists.{edge}
-use Rattle.round_kernel.specs.Sides.{arcs_in, in_view}
-use Rattle.round_kernel.specs.FilterLaws.{filter-permuted}
-use Rattle.round_kernel.specs.Steps.{AreOfAll, TellsAll}
+use Rattle.arc_rows.specs.declared.rows.Rows.{Rows}
+use Rattle.arc_rows.specs.RowLists.{edge}
+use Rattle.arc_rows.specs.Views.{arcs_in, in_view}
+use Rattle.arc_rows.specs.FilterLaws.{filter-permuted}
+use Rattle.arc_rows.specs.RowLists.{AreOfAll}
+use Rattle.arc_rows.specs.Views.{TellsAll}
 use Rattle.view_matrix.specs.Matrices.{MatrixData, bit_of, rule_bit_of, all_edges, edges_in, apart, differ, is_in}
 use Rattle.view_segment.specs.Steps.{flags_of}
 use Rattle.view_segment.proofs.Filters.{filter-parts}

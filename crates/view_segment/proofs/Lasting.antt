@@ -7,7 +7,7 @@ use Rattle.std.proofs.lemmas.List.{take_more, get_or-map, length-append}
 use Rattle.std.proofs.lemmas.Option.{slice_get-get_or}
 use Rattle.graph_model.specs.declared.number.ViewNo.{ViewNo}
 use Rattle.vertex_lang.specs.Lone.{number_of}
-use Rattle.round_kernel.specs.declared.history.History.{History}
+use Rattle.change_lists.specs.declared.history.History.{History}
 use Rattle.round_kernel.specs.Histories.{IsHistory}
 use Rattle.view_order.specs.Greedy.{numbers}
 use Rattle.round_kernel.specs.declared.step.Stepped.{Stepped}

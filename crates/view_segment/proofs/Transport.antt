@@ -19,8 +19,9 @@ use Rattle.lone_work.specs.Items.{Item, same_item}
 use Rattle.lone_work.specs.InputLaws.{items-exact, items-one}
 use Rattle.lone_work.specs.Inputs.{input_under, input, input_in}
 use Rattle.lone_work.specs.Work.{previous, is_active, is_touched, is_marked, is_counted, rounds_counted, node_marked, work}
-use Rattle.round_kernel.specs.declared.history.History.{History}
-use Rattle.round_kernel.specs.Histories.{IsHistory, HasChanges}
+use Rattle.change_lists.specs.declared.history.History.{History}
+use Rattle.round_kernel.specs.Histories.{IsHistory}
+use Rattle.change_lists.specs.ChangeLists.{HasChanges}
 
 -- ---- what is got in each round
 

@@ -6,9 +6,10 @@ use Rattle.graph_model.specs.declared.number.ViewNo.{ViewNo}
 use Rattle.graph_model.specs.declared.value.Val.{Val}
 use Rattle.vertex_lang.specs.Lone.{number_of}
 use Rattle.vertex_lang.specs.Rounds.{lone}
-use Rattle.round_kernel.specs.declared.history.Change.{Change}
-use Rattle.round_kernel.specs.declared.history.History.{History}
-use Rattle.round_kernel.specs.Histories.{IsHistory, all_from, changes_from}
+use Rattle.change_lists.specs.declared.history.Change.{Change}
+use Rattle.change_lists.specs.declared.history.History.{History}
+use Rattle.round_kernel.specs.Histories.{IsHistory}
+use Rattle.change_lists.specs.ChangeLists.{all_from, changes_from}
 use Rattle.view_matrix.specs.Matrices.{is_in}
 use Rattle.view_order.specs.Greedy.{numbers}
 use Rattle.view_segment.specs.declared.segment.Segment.{Segment}

@@ -5,11 +5,11 @@ use Rattle.graph_model.specs.declared.number.EdgeNo.{EdgeNo}
 use Rattle.vertex_lang.specs.Expressions.{Answer}
 use Rattle.vertex_lang.specs.Leaves.{IsChecked}
 use Rattle.vertex_lang.specs.Lone.{number_of}
-use Rattle.round_kernel.specs.declared.rows.Rows.{Rows}
+use Rattle.round_kernel.specs.declared.kernel.Kernel.{Kernel}
 use Rattle.round_kernel.specs.declared.step.Stepped.{Stepped}
 use Rattle.round_kernel.specs.Histories.{IsHistory}
-use Rattle.round_kernel.specs.RowLists.{AreRows}
-use Rattle.round_kernel.specs.Steps.{AreOfAll}
+use Rattle.round_kernel.specs.Kernels.{IsKernel}
+use Rattle.arc_rows.specs.RowLists.{AreOfAll}
 use Rattle.view_matrix.specs.Matrices.{MatrixData, bit_of}
 use Rattle.view_segment.specs.declared.step.Setting.{Setting}
 use Rattle.view_segment.specs.Segments.{change_of}
@@ -23,12 +23,12 @@ flags_of m v = map (λ e. bit_of m e v) (range_with_len 0 (length m.live))
 abbrev pub with_turned : List Bool → EdgeNo → List Bool
 with_turned flags e = slice_set flags e.0 (not (get_or flags e.0 false))
 
-pub record IsSetting (s : Setting) (list : Rows) : Type 0 where
+pub record IsSetting (s : Setting) (k : Kernel) : Type 0 where
   pub checked : IsChecked s.program.now s.graph.now
   pub some : 1 ≤ number_of s.rounds
   pub limit : number_of s.rounds ≤ 1_000_000
-  pub rows : AreRows s.graph.now list
-  pub along : AreOfAll s.program.now.along s.graph.now list
+  pub kernel : IsKernel s.graph.now k
+  pub along : AreOfAll s.program.now.along s.graph.now k.rows
   pub matrix : length s.matrix.now.live ≡ length s.graph.now.ends
 
 abbrev pub task_in : Answer → Setting → Task

@@ -4,16 +4,17 @@ ghost use Rattle.std.specs.Prelude.{◌≡◌, ◌<◌, ◌≤◌, ◌+◌, ◌+
 ghost use Rattle.std.specs.Prelude.{◌==◌};
 ghost use Rattle.vertex_lang.specs.Leaves.{IsChecked};
 ghost use Rattle.vertex_lang.specs.Lone.{number_of};
-ghost use Rattle.round_kernel.specs.RowLists.{AreRows};
-ghost use Rattle.round_kernel.specs.Steps.{AreOfAll};
+ghost use Rattle.round_kernel.specs.Kernels.{IsKernel};
+ghost use Rattle.arc_rows.specs.RowLists.{AreOfAll};
 ghost use Rattle.view_matrix.specs.Matrices.{IsView};
 ghost use Rattle.view_segment.specs.Tasks.{task_over, work_of};
 ghost use Rattle.view_segment.specs.Segments.{last_stepped, place_of, SegmentStands, IsGiven};
 ghost use Rattle.view_segment.specs.Steps.{IsSetting, IsStep, flags_of, task_in};
 
 use crate::step::{Setting, step_first, step_later};
+use change_lists::{Change, History};
 use graph_model::{Graph, ViewNo};
-use round_kernel::{Change, History, Rows, Stepped};
+use round_kernel::{Kernel, Stepped};
 use std::alloc::Global;
 use surge_outside::{List, NoMemory};
 use vertex_lang::{Outcome, Program, Rounds, Updater};
@@ -84,8 +85,8 @@ impl Segment {
         self.works.as_slice()
     }
 
-    /// Steps the next view. The rows are those of all edges of the graph in the direction of the program. The error is want of
-    /// memory; then the segment may be any.
+    /// Steps the next view. The kernel holds the arcs of all edges of the graph in the direction of the program. The error is want
+    /// of memory; then the segment may be any.
     pub fn step<U: Updater>(
         &mut self,
         alloc: Global,
@@ -93,20 +94,20 @@ impl Segment {
         program: &Program,
         rounds: Rounds,
         matrix: &Matrix,
-        rows: &mut Rows,
+        kernel: &mut Kernel,
         updater: &mut U,
     ) -> Result<Given, NoMemory>
         requires checked { IsChecked program.now graph.now }
         requires some { 1 ≤ number_of rounds }
         requires limit { number_of rounds ≤ 1_000_000 }
-        requires rows { AreRows graph.now rows.old }
-        requires along { AreOfAll program.now.along graph.now rows.old }
+        requires kernel { IsKernel graph.now kernel.old }
+        requires along { AreOfAll program.now.along graph.now kernel.old.rows }
         requires matrix { length matrix.now.live ≡ length graph.now.ends }
         requires views { All (IsView matrix.now) self.old.views }
         requires unfinished { length self.old.works < length self.old.views }
         requires stands { SegmentStands (task_over U.answer program.now graph.now rounds matrix.now) self.old }
-        ensures rows { OnOk result (AreRows graph.now rows.new) }
-        ensures arcs { rows.new.by_head ≡ rows.old.by_head }
+        ensures kernel { OnOk result (IsKernel graph.now kernel.new) }
+        ensures rows { kernel.new.rows ≡ kernel.old.rows }
         ensures stands { OnOk result (SegmentStands (task_over U.answer program.now graph.now rounds matrix.now) self.new) }
         ensures views { OnOk result (self.new.views ≡ self.old.views) }
         ensures work { IfOk result (λ given. self.new.works ≡ self.old.works ++ (work_of (task_over U.answer program.now graph.now rounds matrix.now) (last_stepped self.old) given.view.0 ∷ [])) }
@@ -120,7 +121,7 @@ impl Segment {
             matrix,
         };
         let view = self.views.as_slice()[self.works.len()];
-        let (before, stepped, flags) = self.step_view(alloc, setting, rows, view, updater)?;
+        let (before, stepped, flags) = self.step_view(alloc, setting, kernel, view, updater)?;
         let Stepped {
             history,
             outcome,
@@ -145,16 +146,16 @@ impl Segment {
         &mut self,
         alloc: Global,
         setting: Setting<'_>,
-        rows: &mut Rows,
+        kernel: &mut Kernel,
         view: ViewNo,
         updater: &mut U,
     ) -> Result<(Option<ViewNo>, Stepped, Vec<bool>), NoMemory>
-        requires setting { IsSetting setting rows.old }
+        requires setting { IsSetting setting kernel.old }
         requires views { All (IsView setting.matrix.now) self.old.views }
         requires view { IsView setting.matrix.now view }
         requires stands { SegmentStands (task_in U.answer setting) self.old }
-        ensures rows { OnOk result (AreRows setting.entry.graph.now rows.new) }
-        ensures arcs { rows.new.by_head ≡ rows.old.by_head }
+        ensures kernel { OnOk result (IsKernel setting.entry.graph.now kernel.new) }
+        ensures rows { kernel.new.rows ≡ kernel.old.rows }
         ensures before { IfOk result (λ made. place_of made.0 ≡ last_stepped self.old) }
         ensures step { IfOk result (λ made. IsStep (task_in U.answer setting.entry) (last_stepped self.old) view.0 made.1) }
         ensures flags { IfOk result (λ made. made.2.items ≡ flags_of setting.entry.matrix.now view.0) }
@@ -165,13 +166,13 @@ impl Segment {
         let kept = self.flags.take();
         match &self.history {
             None => {
-                let (stepped, flags) = step_first(alloc, setting, rows, view, updater)?;
+                let (stepped, flags) = step_first(alloc, setting, kernel, view, updater)?;
                 Ok((None, stepped, flags))
             }
             Some(history) => {
                 let before = self.views.as_slice()[self.works.len() - 1];
                 let (stepped, flags) = step_later(
-                    alloc, setting, rows, before, history, kept, view, updater,
+                    alloc, setting, kernel, before, history, kept, view, updater,
                 )?;
                 Ok((Some(before), stepped, flags))
             }

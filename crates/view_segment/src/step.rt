@@ -4,17 +4,19 @@ ghost use Rattle.std.specs.Prelude.{◌≡◌, ◌<◌, ◌+◌, length, All, So
 ghost use Rattle.vertex_lang.specs.Lone.{number_of, answer_of};
 ghost use Rattle.vertex_lang.specs.Rounds.{lone};
 ghost use Rattle.lone_work.specs.Work.{work};
-ghost use Rattle.round_kernel.specs.Histories.{IsHistory, all_from, changes_from};
-ghost use Rattle.round_kernel.specs.RowLists.{AreRows};
-ghost use Rattle.round_kernel.specs.Sides.{arcs_in};
-ghost use Rattle.round_kernel.specs.Steps.{TellsAll};
+ghost use Rattle.round_kernel.specs.Histories.{IsHistory};
+ghost use Rattle.change_lists.specs.ChangeLists.{all_from, changes_from};
+ghost use Rattle.round_kernel.specs.Kernels.{IsKernel};
+ghost use Rattle.arc_rows.specs.Views.{arcs_in};
+ghost use Rattle.arc_rows.specs.Views.{TellsAll};
 ghost use Rattle.view_matrix.specs.Matrices.{IsView};
 ghost use Rattle.view_segment.specs.Tasks.{view_arcs};
 ghost use Rattle.view_segment.specs.Steps.{IsSetting, IsStep, flags_of, task_in};
 
 use crate::flags::{known_flags, turned_edges, turned_flags};
+use change_lists::History;
 use graph_model::{EdgeNo, Graph, ViewNo};
-use round_kernel::{History, Rows, Stepped, first_step, next_step};
+use round_kernel::{Kernel, Stepped, first_step, next_step};
 use std::alloc::Global;
 use surge_outside::NoMemory;
 use vertex_lang::{Program, Rounds, Updater};
@@ -33,21 +35,21 @@ pub(crate) struct Setting<'a> {
 pub(crate) fn step_first<U: Updater>(
     alloc: Global,
     setting: Setting<'_>,
-    rows: &mut Rows,
+    kernel: &mut Kernel,
     view: ViewNo,
     updater: &mut U,
 ) -> Result<(Stepped, Vec<bool>), NoMemory>
-    requires setting { IsSetting setting rows.old }
+    requires setting { IsSetting setting kernel.old }
     requires view { IsView setting.matrix.now view }
     ensures step { IfOk result (λ made. IsStep (task_in U.answer setting.entry) None view.0 made.0) }
     ensures flags { IfOk result (λ made. made.1.items ≡ flags_of setting.entry.matrix.now view.0) }
-    ensures rows { OnOk result (AreRows setting.entry.graph.now rows.new) }
-    ensures arcs { rows.new.by_head ≡ rows.old.by_head }
+    ensures kernel { OnOk result (IsKernel setting.entry.graph.now kernel.new) }
+    ensures rows { kernel.new.rows ≡ kernel.old.rows }
     ensures calls { IfOk result (λ made. U.calls updater.new ≡ U.calls updater.old + made.0.work) }
 {
     let few = are_few(setting.graph, setting.matrix.size(view));
     let edges = setting.matrix.flags(alloc, view)?;
-    let stepped = first_within(alloc, setting, rows, few, &edges, updater)?;
+    let stepped = first_within(alloc, setting, kernel, few, &edges, updater)?;
     Ok((stepped, edges))
 }
 
@@ -56,22 +58,22 @@ pub(crate) fn step_first<U: Updater>(
 pub(crate) fn step_later<U: Updater>(
     alloc: Global,
     setting: Setting<'_>,
-    rows: &mut Rows,
+    kernel: &mut Kernel,
     before: ViewNo,
     history: &History,
     kept: Option<Vec<bool>>,
     view: ViewNo,
     updater: &mut U,
 ) -> Result<(Stepped, Vec<bool>), NoMemory>
-    requires setting { IsSetting setting rows.old }
+    requires setting { IsSetting setting kernel.old }
     requires before { IsView setting.matrix.now before }
     requires view { IsView setting.matrix.now view }
     requires history { IsHistory U.answer setting.program.now setting.graph.now (Some (view_arcs (task_in U.answer setting) before.0)) (number_of setting.rounds) history.now }
     requires kept { IfSome kept (λ flags. flags.items ≡ flags_of setting.matrix.now before.0) }
     ensures step { IfOk result (λ made. IsStep (task_in U.answer setting.entry) (Some before.0) view.0 made.0) }
     ensures flags { IfOk result (λ made. made.1.items ≡ flags_of setting.entry.matrix.now view.0) }
-    ensures rows { OnOk result (AreRows setting.entry.graph.now rows.new) }
-    ensures arcs { rows.new.by_head ≡ rows.old.by_head }
+    ensures kernel { OnOk result (IsKernel setting.entry.graph.now kernel.new) }
+    ensures rows { kernel.new.rows ≡ kernel.old.rows }
     ensures calls { IfOk result (λ made. U.calls updater.new ≡ U.calls updater.old + made.0.work) }
 {
     let turned = turned_edges(alloc, setting.matrix, before, view)?;
@@ -82,7 +84,7 @@ pub(crate) fn step_later<U: Updater>(
     let stepped = next_within(
         alloc,
         setting,
-        rows,
+        kernel,
         few,
         history,
         &old,
@@ -106,29 +108,29 @@ fn are_few(graph: &Graph, edges: u64) -> bool {
 fn first_within<U: Updater>(
     alloc: Global,
     setting: Setting<'_>,
-    rows: &mut Rows,
+    kernel: &mut Kernel,
     few: bool,
     edges: &[bool],
     updater: &mut U,
 ) -> Result<Stepped, NoMemory>
-    requires setting { IsSetting setting rows.old }
+    requires setting { IsSetting setting kernel.old }
     requires edges { length edges.now ≡ length setting.graph.now.ends }
-    ensures history { IfOk result (λ s. IsHistory U.answer setting.entry.program.now setting.entry.graph.now (Some (arcs_in rows.old.by_head edges.now)) (number_of setting.entry.rounds) s.history) }
-    ensures outcome { IfOk result (λ s. s.outcome ≡ (answer_of U.answer setting.entry.program.now setting.entry.graph.now (arcs_in rows.old.by_head edges.now) setting.entry.rounds).outcome) }
-    ensures change { IfOk result (λ s. s.change ≡ all_from 0 (lone U.answer setting.entry.program.now setting.entry.graph.now (arcs_in rows.old.by_head edges.now) (number_of setting.entry.rounds))) }
-    ensures work { IfOk result (λ s. s.work ≡ work U.answer setting.entry.program.now setting.entry.graph.now (arcs_in rows.old.by_head edges.now) None (number_of setting.entry.rounds)) }
-    ensures rows { OnOk result (AreRows setting.entry.graph.now rows.new) }
-    ensures arcs { rows.new.by_head ≡ rows.old.by_head }
+    ensures history { IfOk result (λ s. IsHistory U.answer setting.entry.program.now setting.entry.graph.now (Some (arcs_in kernel.old.rows.by_head edges.now)) (number_of setting.entry.rounds) s.history) }
+    ensures outcome { IfOk result (λ s. s.outcome ≡ (answer_of U.answer setting.entry.program.now setting.entry.graph.now (arcs_in kernel.old.rows.by_head edges.now) setting.entry.rounds).outcome) }
+    ensures change { IfOk result (λ s. s.change ≡ all_from 0 (lone U.answer setting.entry.program.now setting.entry.graph.now (arcs_in kernel.old.rows.by_head edges.now) (number_of setting.entry.rounds))) }
+    ensures work { IfOk result (λ s. s.work ≡ work U.answer setting.entry.program.now setting.entry.graph.now (arcs_in kernel.old.rows.by_head edges.now) None (number_of setting.entry.rounds)) }
+    ensures kernel { OnOk result (IsKernel setting.entry.graph.now kernel.new) }
+    ensures rows { kernel.new.rows ≡ kernel.old.rows }
     ensures calls { IfOk result (λ s. U.calls updater.new ≡ U.calls updater.old + s.work) }
 {
     if few {
-        first_few(alloc, setting, rows, edges, updater)
+        first_few(alloc, setting, kernel, edges, updater)
     } else {
         first_step(
             alloc,
             setting.program,
             setting.graph,
-            rows,
+            kernel,
             edges,
             setting.rounds,
             updater,
@@ -140,21 +142,21 @@ fn first_within<U: Updater>(
 fn first_few<U: Updater>(
     alloc: Global,
     setting: Setting<'_>,
-    rows: &mut Rows,
+    kernel: &mut Kernel,
     edges: &[bool],
     updater: &mut U,
 ) -> Result<Stepped, NoMemory>
-    requires setting { IsSetting setting rows.old }
+    requires setting { IsSetting setting kernel.old }
     requires edges { length edges.now ≡ length setting.graph.now.ends }
-    ensures history { IfOk result (λ s. IsHistory U.answer setting.entry.program.now setting.entry.graph.now (Some (arcs_in rows.old.by_head edges.now)) (number_of setting.entry.rounds) s.history) }
-    ensures outcome { IfOk result (λ s. s.outcome ≡ (answer_of U.answer setting.entry.program.now setting.entry.graph.now (arcs_in rows.old.by_head edges.now) setting.entry.rounds).outcome) }
-    ensures change { IfOk result (λ s. s.change ≡ all_from 0 (lone U.answer setting.entry.program.now setting.entry.graph.now (arcs_in rows.old.by_head edges.now) (number_of setting.entry.rounds))) }
-    ensures work { IfOk result (λ s. s.work ≡ work U.answer setting.entry.program.now setting.entry.graph.now (arcs_in rows.old.by_head edges.now) None (number_of setting.entry.rounds)) }
-    ensures rows { OnOk result (AreRows setting.entry.graph.now rows.new) }
-    ensures arcs { rows.new.by_head ≡ rows.old.by_head }
+    ensures history { IfOk result (λ s. IsHistory U.answer setting.entry.program.now setting.entry.graph.now (Some (arcs_in kernel.old.rows.by_head edges.now)) (number_of setting.entry.rounds) s.history) }
+    ensures outcome { IfOk result (λ s. s.outcome ≡ (answer_of U.answer setting.entry.program.now setting.entry.graph.now (arcs_in kernel.old.rows.by_head edges.now) setting.entry.rounds).outcome) }
+    ensures change { IfOk result (λ s. s.change ≡ all_from 0 (lone U.answer setting.entry.program.now setting.entry.graph.now (arcs_in kernel.old.rows.by_head edges.now) (number_of setting.entry.rounds))) }
+    ensures work { IfOk result (λ s. s.work ≡ work U.answer setting.entry.program.now setting.entry.graph.now (arcs_in kernel.old.rows.by_head edges.now) None (number_of setting.entry.rounds)) }
+    ensures kernel { OnOk result (IsKernel setting.entry.graph.now kernel.new) }
+    ensures rows { kernel.new.rows ≡ kernel.old.rows }
     ensures calls { IfOk result (λ s. U.calls updater.new ≡ U.calls updater.old + s.work) }
 {
-    let mut chosen = rows.within(alloc, setting.graph, edges, edges)?;
+    let mut chosen = kernel.within(alloc, setting.graph, edges, edges)?;
     first_step(
         alloc,
         setting.program,
@@ -171,7 +173,7 @@ fn first_few<U: Updater>(
 fn next_within<U: Updater>(
     alloc: Global,
     setting: Setting<'_>,
-    rows: &mut Rows,
+    kernel: &mut Kernel,
     few: bool,
     history: &History,
     old: &[bool],
@@ -179,28 +181,28 @@ fn next_within<U: Updater>(
     turned: &[EdgeNo],
     updater: &mut U,
 ) -> Result<Stepped, NoMemory>
-    requires setting { IsSetting setting rows.old }
+    requires setting { IsSetting setting kernel.old }
     requires old { length old.now ≡ length setting.graph.now.ends }
     requires new { length new.now ≡ length setting.graph.now.ends }
     requires turned { All (λ e. e.0 < length setting.graph.now.ends) turned.now }
     requires all_turned { TellsAll old.now new.now turned.now }
-    requires history { IsHistory U.answer setting.program.now setting.graph.now (Some (arcs_in rows.old.by_head old.now)) (number_of setting.rounds) history.now }
-    ensures history { IfOk result (λ s. IsHistory U.answer setting.entry.program.now setting.entry.graph.now (Some (arcs_in rows.old.by_head new.now)) (number_of setting.entry.rounds) s.history) }
-    ensures outcome { IfOk result (λ s. s.outcome ≡ (answer_of U.answer setting.entry.program.now setting.entry.graph.now (arcs_in rows.old.by_head new.now) setting.entry.rounds).outcome) }
-    ensures change { IfOk result (λ s. s.change ≡ changes_from 0 (lone U.answer setting.entry.program.now setting.entry.graph.now (arcs_in rows.old.by_head old.now) (number_of setting.entry.rounds)) (lone U.answer setting.entry.program.now setting.entry.graph.now (arcs_in rows.old.by_head new.now) (number_of setting.entry.rounds))) }
-    ensures work { IfOk result (λ s. s.work ≡ work U.answer setting.entry.program.now setting.entry.graph.now (arcs_in rows.old.by_head new.now) (Some (arcs_in rows.old.by_head old.now)) (number_of setting.entry.rounds)) }
-    ensures rows { OnOk result (AreRows setting.entry.graph.now rows.new) }
-    ensures arcs { rows.new.by_head ≡ rows.old.by_head }
+    requires history { IsHistory U.answer setting.program.now setting.graph.now (Some (arcs_in kernel.old.rows.by_head old.now)) (number_of setting.rounds) history.now }
+    ensures history { IfOk result (λ s. IsHistory U.answer setting.entry.program.now setting.entry.graph.now (Some (arcs_in kernel.old.rows.by_head new.now)) (number_of setting.entry.rounds) s.history) }
+    ensures outcome { IfOk result (λ s. s.outcome ≡ (answer_of U.answer setting.entry.program.now setting.entry.graph.now (arcs_in kernel.old.rows.by_head new.now) setting.entry.rounds).outcome) }
+    ensures change { IfOk result (λ s. s.change ≡ changes_from 0 (lone U.answer setting.entry.program.now setting.entry.graph.now (arcs_in kernel.old.rows.by_head old.now) (number_of setting.entry.rounds)) (lone U.answer setting.entry.program.now setting.entry.graph.now (arcs_in kernel.old.rows.by_head new.now) (number_of setting.entry.rounds))) }
+    ensures work { IfOk result (λ s. s.work ≡ work U.answer setting.entry.program.now setting.entry.graph.now (arcs_in kernel.old.rows.by_head new.now) (Some (arcs_in kernel.old.rows.by_head old.now)) (number_of setting.entry.rounds)) }
+    ensures kernel { OnOk result (IsKernel setting.entry.graph.now kernel.new) }
+    ensures rows { kernel.new.rows ≡ kernel.old.rows }
     ensures calls { IfOk result (λ s. U.calls updater.new ≡ U.calls updater.old + s.work) }
 {
     if few {
-        next_few(alloc, setting, rows, history, old, new, turned, updater)
+        next_few(alloc, setting, kernel, history, old, new, turned, updater)
     } else {
         next_step(
             alloc,
             setting.program,
             setting.graph,
-            rows,
+            kernel,
             history,
             old,
             new,
@@ -215,28 +217,28 @@ fn next_within<U: Updater>(
 fn next_few<U: Updater>(
     alloc: Global,
     setting: Setting<'_>,
-    rows: &mut Rows,
+    kernel: &mut Kernel,
     history: &History,
     old: &[bool],
     new: &[bool],
     turned: &[EdgeNo],
     updater: &mut U,
 ) -> Result<Stepped, NoMemory>
-    requires setting { IsSetting setting rows.old }
+    requires setting { IsSetting setting kernel.old }
     requires old { length old.now ≡ length setting.graph.now.ends }
     requires new { length new.now ≡ length setting.graph.now.ends }
     requires turned { All (λ e. e.0 < length setting.graph.now.ends) turned.now }
     requires all_turned { TellsAll old.now new.now turned.now }
-    requires history { IsHistory U.answer setting.program.now setting.graph.now (Some (arcs_in rows.old.by_head old.now)) (number_of setting.rounds) history.now }
-    ensures history { IfOk result (λ s. IsHistory U.answer setting.entry.program.now setting.entry.graph.now (Some (arcs_in rows.old.by_head new.now)) (number_of setting.entry.rounds) s.history) }
-    ensures outcome { IfOk result (λ s. s.outcome ≡ (answer_of U.answer setting.entry.program.now setting.entry.graph.now (arcs_in rows.old.by_head new.now) setting.entry.rounds).outcome) }
-    ensures change { IfOk result (λ s. s.change ≡ changes_from 0 (lone U.answer setting.entry.program.now setting.entry.graph.now (arcs_in rows.old.by_head old.now) (number_of setting.entry.rounds)) (lone U.answer setting.entry.program.now setting.entry.graph.now (arcs_in rows.old.by_head new.now) (number_of setting.entry.rounds))) }
-    ensures work { IfOk result (λ s. s.work ≡ work U.answer setting.entry.program.now setting.entry.graph.now (arcs_in rows.old.by_head new.now) (Some (arcs_in rows.old.by_head old.now)) (number_of setting.entry.rounds)) }
-    ensures rows { OnOk result (AreRows setting.entry.graph.now rows.new) }
-    ensures arcs { rows.new.by_head ≡ rows.old.by_head }
+    requires history { IsHistory U.answer setting.program.now setting.graph.now (Some (arcs_in kernel.old.rows.by_head old.now)) (number_of setting.rounds) history.now }
+    ensures history { IfOk result (λ s. IsHistory U.answer setting.entry.program.now setting.entry.graph.now (Some (arcs_in kernel.old.rows.by_head new.now)) (number_of setting.entry.rounds) s.history) }
+    ensures outcome { IfOk result (λ s. s.outcome ≡ (answer_of U.answer setting.entry.program.now setting.entry.graph.now (arcs_in kernel.old.rows.by_head new.now) setting.entry.rounds).outcome) }
+    ensures change { IfOk result (λ s. s.change ≡ changes_from 0 (lone U.answer setting.entry.program.now setting.entry.graph.now (arcs_in kernel.old.rows.by_head old.now) (number_of setting.entry.rounds)) (lone U.answer setting.entry.program.now setting.entry.graph.now (arcs_in kernel.old.rows.by_head new.now) (number_of setting.entry.rounds))) }
+    ensures work { IfOk result (λ s. s.work ≡ work U.answer setting.entry.program.now setting.entry.graph.now (arcs_in kernel.old.rows.by_head new.now) (Some (arcs_in kernel.old.rows.by_head old.now)) (number_of setting.entry.rounds)) }
+    ensures kernel { OnOk result (IsKernel setting.entry.graph.now kernel.new) }
+    ensures rows { kernel.new.rows ≡ kernel.old.rows }
     ensures calls { IfOk result (λ s. U.calls updater.new ≡ U.calls updater.old + s.work) }
 {
-    let mut chosen = rows.within(alloc, setting.graph, old, new)?;
+    let mut chosen = kernel.within(alloc, setting.graph, old, new)?;
     next_step(
         alloc,
         setting.program,

@@ -17,7 +17,7 @@ use Rattle.vertex_lang.specs.Lone.{number_of, answer_of}
 use Rattle.vertex_lang.specs.Rounds.{lone}
 use Rattle.lone_work.specs.Work.{work}
 use Rattle.edge_predicates.specs.ViewEdges.{edge}
-use Rattle.round_kernel.specs.declared.history.History.{History}
+use Rattle.change_lists.specs.declared.history.History.{History}
 use Rattle.round_kernel.specs.Histories.{IsHistory}
 use Rattle.segment_split.specs.declared.SplitRule.{SplitRule}
 use Rattle.segment_split.specs.declared.SplitRule.TheVariants as split

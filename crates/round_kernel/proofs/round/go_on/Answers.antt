@@ -3,13 +3,15 @@ use Rattle.std.specs.Vec.{with_items}
 use Rattle.std.proofs.lemmas.List.{with_items_is}
 use Rattle.graph_model.specs.declared.value.Val.{Val}
 use Rattle.vertex_lang.specs.RoundLaws.{length-lone}
-use Rattle.round_kernel.specs.declared.round.Lists.{Lists}
-use Rattle.round_kernel.specs.Sides.{AreSent, MayKeep, arcs_in}
-use Rattle.round_kernel.specs.Queues.{waits}
+use Rattle.round_kernel.specs.declared.frame.Lists.{Lists}
+use Rattle.round_messages.specs.Sides.{AreSent}
+use Rattle.message_forms.specs.Forms.{MayKeep}
+use Rattle.arc_rows.specs.Views.{arcs_in}
+use Rattle.waiting_nodes.specs.Queues.{waits}
 use Rattle.round_kernel.specs.Frames.{StandAt, count_in, was_touched_at, lone_at, old_lone_at, new_arcs}
 use Rattle.round_kernel.proofs.Marking.{changes-now, old-step, moved}
 use Rattle.round_kernel.proofs.Rounding.{at-next, kept-both}
-use Rattle.round_kernel.proofs.Sending.{sent-at}
+use Rattle.round_messages.specs.SendingLaws.{sent-at}
 use Rattle.round_kernel.proofs.round.go_on.Goals as goal
 
 pub catch_up_new-requires-clause-now : goal.catch_up_new-requires-clause-now

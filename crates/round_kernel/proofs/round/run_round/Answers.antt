@@ -1,8 +1,8 @@
 use Rattle.std.proofs.Common.{Vec, Global, ◌≡◌, ◌∙◌, ◌<◌, ◌+◌, ◌-◌, ◌++◌, Bool, List, filter, length, get_or, true, false, sym, ap, subst, arith}
 use Rattle.std.specs.Prelude.{All}
 use Rattle.graph_model.specs.declared.number.NodeNo.{NodeNo}
-use Rattle.round_kernel.specs.declared.history.Change.{Change}
-use Rattle.round_kernel.specs.Histories.{HasNodes, HasChanges, is_listed}
+use Rattle.change_lists.specs.declared.history.Change.{Change}
+use Rattle.change_lists.specs.ChangeLists.{HasNodes, HasChanges, is_listed}
 use Rattle.round_kernel.specs.Frames.{AreDivided, AreStirred, HasSome, stirs, count_in, lone_at, marked_at, touched_at}
 use Rattle.round_kernel.proofs.Marking.{changes-now}
 use Rattle.round_kernel.proofs.Rounding.{changes-all, listed-when, marks-all, stirred-all}

@@ -2,11 +2,11 @@ use Rattle.std.proofs.Common.{◌≡◌, ◌∙◌, ◌<◌, ◌+◌, Bool, fals
 use Rattle.std.specs.List.{range_with_len}
 use Rattle.std.proofs.lemmas.List.FromFn.{length-range_with_len}
 use Rattle.std.proofs.lemmas.List.Sums.{count_by-le-length}
-use Rattle.round_kernel.specs.declared.queue.Queue.{Queue}
-use Rattle.round_kernel.specs.declared.round.Lists.{Lists}
-use Rattle.round_kernel.specs.Queues.{waits}
+use Rattle.waiting_nodes.specs.declared.queue.Queue.{Queue}
+use Rattle.round_kernel.specs.declared.frame.Lists.{Lists}
+use Rattle.waiting_nodes.specs.Queues.{waits}
 use Rattle.round_kernel.specs.Frames.{counted_at, count_in}
-use Rattle.round_kernel.proofs.Waiting.{queue-at, queue-step, still-waits}
+use Rattle.waiting_nodes.specs.WaitingLaws.{queue-at, queue-step, still-waits}
 use Rattle.round_kernel.proofs.Visiting.{done, one-most}
 use Rattle.round_kernel.proofs.Standing.{at-queue, place-of, shown-still}
 use Rattle.round_kernel.proofs.Stepping.{IsVisiting, meanwhile, visiting-start, visiting-next, waiting-was}

@@ -1,6 +1,6 @@
 use Rattle.std.proofs.Common.{refl}
 use Rattle.round_kernel.proofs.Standing.{round-at}
-use Rattle.round_kernel.proofs.Sending.{sent-at}
+use Rattle.round_messages.specs.SendingLaws.{sent-at}
 use Rattle.round_kernel.proofs.round.visit_one.Goals as goal
 
 pub visit-requires-clause-new_sent : goal.visit-requires-clause-new_sent

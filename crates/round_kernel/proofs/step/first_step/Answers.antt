@@ -5,21 +5,17 @@ use Rattle.std.proofs.lemmas.List.Elements.{All-nil}
 use Rattle.graph_model.specs.declared.value.Val.{Val}
 use Rattle.vertex_lang.specs.Arcs.{IsArc}
 use Rattle.vertex_lang.specs.RoundLaws.{length-lone}
-use Rattle.round_kernel.specs.declared.degrees.Degrees.{Degrees}
-use Rattle.round_kernel.specs.Counts.{ArePlain}
-use Rattle.round_kernel.specs.RowLaws.{with-past}
-use Rattle.round_kernel.specs.Sides.{arcs_in}
+use Rattle.arc_rows.specs.declared.degrees.Degrees.{Degrees}
+use Rattle.arc_rows.specs.Counts.{ArePlain}
+use Rattle.arc_rows.specs.Views.{arcs_in}
 use Rattle.round_kernel.proofs.Beginning.{none-history}
 use Rattle.round_kernel.proofs.Ending.{outcome-is}
 use Rattle.round_kernel.proofs.step.first_step.Goals as goal
 
-pub counted-requires-clause-rows : goal.counted-requires-clause-rows
-counted-requires-clause-rows g c = with-past c.args.graph.now c.args.rows.now c.nothing.result c.requires.rows (c.nothing.ensures c.args.graph.now c.args.rows.now.by_head)
-
 pub run_rounds-requires-clause-frame : goal.run_rounds-requires-clause-frame
 run_rounds-requires-clause-frame g c = record {
   checked = c.requires.checked;
-  rows = with-past c.args.graph.now c.args.rows.now c.nothing.result c.requires.rows (c.nothing.ensures c.args.graph.now c.args.rows.now.by_head);
+  rows = c.requires.kernel.rows;
   few = c.nodes_are_few.ensures;
   old_size = ap (λ (bs : List Bool). length bs) (c.deref-2.ensures.value ∙ c.in_ok-none.ensures.items_if_clones_equal (λ y h. h)) ∙ length-replicate _ _ ∙ c.requires.edges;
   new_size = c.requires.edges;
@@ -31,7 +27,7 @@ run_rounds-requires-clause-frame g c = record {
 
 pub all_changes-requires : goal.all_changes-requires
 all_changes-requires g c =
-    let new = arcs_in c.args.rows.now.by_head c.args.edges.now in
+    let new = arcs_in c.args.kernel.now.rows.by_head c.args.edges.now in
     omega (
       arith,
       ap (λ (vs : List Val). length vs) (c.deref-3.ensures.value ∙ c.in_ok-run.ensures.run.new_values),
@@ -41,10 +37,17 @@ all_changes-requires g c =
 
 pub returns-clause-outcome : goal.returns-clause-outcome
 returns-clause-outcome g c =
-    let new = arcs_in c.args.rows.now.by_head c.args.edges.now in
+    let new = arcs_in c.args.kernel.now.rows.by_head c.args.edges.now in
     c.outcome.ensures
     ∙ outcome-is g.U.Updater.answer c.args.program.now c.args.graph.now new c.in_ok-run.run'.history c.limit_of.result c.in_ok-run.ensures.run.history c.in_ok-run.ensures.run.few c.in_ok-run.ensures.run.last
     c.args.rounds (sym c.limit_of.ensures) (omega (arith, c.requires.some, c.limit_of.ensures))
 
-pub returns-clause-rows : goal.returns-clause-rows
-returns-clause-rows g c = with-past c.args.graph.now c.args.rows.now c.of.result c.requires.rows (c.of.ensures c.args.graph.now c.args.rows.now.by_head c.in_ok-run.ensures.listed (c.in_ok-counted.ensures c.args.graph.now c.args.rows.now.by_head _ c.args.edges.now c.in_ok-degrees.ensures) (c.of-spare.ensures c.args.graph.now (subst (λ (d : Degrees). ArePlain c.args.graph.now d) (sym c.degrees.ensures) c.in_ok-run.ensures.run.plain)))
+pub returns-clause-kernel : goal.returns-clause-kernel
+returns-clause-kernel g c =
+    let graph = c.args.graph.now in
+    let all = c.args.kernel.now.rows.by_head in
+    record {
+      rows = c.requires.kernel.rows;
+      cached = c.of-2.ensures graph all c.in_ok-run.ensures.listed (c.in_ok-counted.ensures graph all _ c.args.edges.now c.in_ok-degrees.ensures);
+      spare = c.of.ensures graph (subst (λ (d : Degrees). ArePlain graph d) (sym c.degrees.ensures) c.in_ok-run.ensures.run.plain);
+    }

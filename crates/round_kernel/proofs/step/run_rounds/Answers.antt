@@ -2,8 +2,8 @@ use Rattle.std.proofs.Common.{◌≡◌, ◌∙◌, ◌+◌, ◌-◌, ℕ, List,
 use Rattle.std.specs.Vec.{with_items}
 use Rattle.std.proofs.lemmas.List.{with_items_is}
 use Rattle.lone_work.specs.StepLaws.{no-round}
-use Rattle.round_kernel.specs.declared.tally.Kept.{Kept}
-use Rattle.round_kernel.specs.Tallies.{kept_of, no_tally}
+use Rattle.value_codes.specs.declared.tally.Kept.{Kept}
+use Rattle.value_codes.specs.Tallies.{kept_of, no_tally}
 use Rattle.round_kernel.specs.Frames.{AreStirred, new_arcs, old_arcs}
 use Rattle.round_kernel.proofs.Growing.{rounds-none}
 use Rattle.round_kernel.proofs.Ending.{IsEnd, end-quiet, end-all, run-history, run-work, run-new, run-old}
@@ -20,7 +20,7 @@ loop-round-init g c = record {
   kept_size = c.requires.kept;
   kept = λ later. absurd (omega (arith, later));
   stirred = λ later. absurd (omega (arith, later));
-  aided = c.in_ok-aids.ensures.aided;
+  lookups = c.in_ok-lookups.ensures.lookups;
   within = omega arith;
   work = sym (no-round g.U.Updater.answer c.args.frame.program.now c.args.frame.graph.now (new_arcs c.args.frame) (old_arcs c.args.frame));
   few = omega arith;
@@ -44,7 +44,7 @@ loop-round-preserved g c =
       kept_size = ap (λ (ks : List Kept). length ks) same ∙ c.run_one.ensures.kept_size;
       kept = λ later. kept-next g.U.Updater.answer c.args.frame c.loop-round.round c.run_one.new.kept (with_items kept c.run_one.new.kept).items same c.in_ok-work.ensures.kept;
       stirred = λ later few. subst (λ (k : ℕ). AreStirred g.U.Updater.answer c.args.frame k c.run_one.new.made.stirred) back (c.in_ok-work.ensures.stirred few);
-      aided = c.in_ok-work.ensures.aided;
+      lookups = c.in_ok-work.ensures.lookups;
       within = omega arith;
       work = omega (arith, c.loop-round.invariant.work, c.in_ok-work.ensures.work);
       few = omega (arith, c.loop-round.invariant.few, c.in_ok-work.ensures.few);

@@ -1,7 +1,7 @@
 use Rattle.std.proofs.Common.{◌≡◌, ◌<◌, ◌≤◌, ◌+◌, ◌*◌, ◌-◌, true, length}
 use Rattle.lone_work.specs.Work.{work}
 use Rattle.round_kernel.specs.Rounds.{AreIdle}
-use Rattle.round_kernel.specs.Aiding.{StandsAided}
+use Rattle.round_kernel.specs.Lookups.{StandLookups}
 use Rattle.round_kernel.specs.Frames.{AreStirred, StandAt, AreKept, count_in, was_touched_at, new_arcs, old_arcs}
 use Rattle.round_kernel.specs.Steps.{HasRounds}
 use Rattle.round_kernel.proofs.step.run_rounds.Given as goal
@@ -14,7 +14,7 @@ invariant-loop-round g l = record {
   kept_size : length l.kept.items ≡ count_in l.frame;
   kept : 0 < l.round → AreKept g.U.Updater.answer l.frame (l.round - 1) (was_touched_at g.U.Updater.answer l.frame l.round) l.kept.items;
   stirred : 0 < l.round → l.made.few ≡ true → AreStirred g.U.Updater.answer l.frame (l.round - 1) l.made.stirred;
-  aided : StandsAided g.U.Updater.answer l.frame l.round l.aids;
+  lookups : StandLookups g.U.Updater.answer l.frame l.round l.lookups;
   within : l.round ≤ l.frame.limit;
   work : l.work ≡ work g.U.Updater.answer l.frame.program.now l.frame.graph.now (new_arcs l.frame) (old_arcs l.frame) l.round;
   few : l.work ≤ 1_000_000 * l.round;

@@ -2,7 +2,7 @@ use Rattle.std.proofs.Common.{◌≡◌, ◌∙◌, ◌-◌, [], List, length, g
 use Rattle.std.proofs.lemmas.Bool.{cases_lt}
 use Rattle.std.proofs.lemmas.List.{get_or-take, length-take}
 use Rattle.std.proofs.Math.ListN.{get_or-eq_default}
-use Rattle.round_kernel.specs.declared.history.Change.{Change}
+use Rattle.change_lists.specs.declared.history.Change.{Change}
 use Rattle.round_kernel.proofs.step.trim.Goals as goal
 
 pub loop-count-init : goal.loop-count-init

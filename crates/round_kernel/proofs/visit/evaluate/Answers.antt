@@ -1,10 +1,10 @@
 use Rattle.std.proofs.Common.{◌∙◌, ap, refl, arith}
 use Rattle.lone_work.specs.Inputs.{got_values}
-use Rattle.round_kernel.specs.declared.tally.Tally.{Tally}
-use Rattle.round_kernel.specs.Sides.{arcs_in}
-use Rattle.round_kernel.specs.Tallies.{gathered_in}
-use Rattle.round_kernel.proofs.Gathered.{tallied}
-use Rattle.round_kernel.proofs.Kept.{got-few}
+use Rattle.value_codes.specs.declared.tally.Tally.{Tally}
+use Rattle.arc_rows.specs.Views.{arcs_in}
+use Rattle.value_codes.specs.Tallies.{gathered_in}
+use Rattle.round_inputs.specs.InputLaws.{tallied}
+use Rattle.round_inputs.specs.InputLaws.{got-few}
 use Rattle.round_kernel.proofs.Visits.{next-told}
 use Rattle.round_kernel.proofs.visit.evaluate.Goals as goal
 

@@ -1,5 +1,5 @@
 use Rattle.std.proofs.Common.{◌≡◌, ◌-◌, suc, arith}
-use Rattle.round_kernel.specs.Sides.{arcs_in}
+use Rattle.arc_rows.specs.Views.{arcs_in}
 use Rattle.round_kernel.proofs.Kept.{marked-kept}
 use Rattle.round_kernel.proofs.visit.is_marked.Goals as goal
 

@@ -1,6 +1,6 @@
 use Rattle.std.proofs.Common.{◌<◌, sym, arith}
 use Rattle.std.proofs.lemmas.Bool.{not-true}
-use Rattle.round_kernel.specs.Sides.{arcs_in}
+use Rattle.arc_rows.specs.Views.{arcs_in}
 use Rattle.round_kernel.proofs.Visits.{marked-first}
 use Rattle.round_kernel.proofs.Kept.{marked-new}
 use Rattle.round_kernel.proofs.visit.is_new_input.Goals as goal

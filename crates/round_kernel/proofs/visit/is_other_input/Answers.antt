@@ -7,9 +7,10 @@ use Rattle.lone_work.specs.Inputs.{got_values}
 use Rattle.vertex_lang.specs.Lone.{same_value}
 use Rattle.vertex_lang.specs.Rounds.{value_at}
 use Rattle.multisets.specs.Multisets.{are_one}
-use Rattle.round_kernel.specs.Sides.{arcs_in, all_brought, row_of}
-use Rattle.round_kernel.proofs.Brought.{brought-is, brought-row}
-use Rattle.round_kernel.proofs.Listed.{some-is}
+use Rattle.arc_rows.specs.Views.{arcs_in, row_of}
+use Rattle.round_messages.specs.Sides.{all_brought}
+use Rattle.round_inputs.specs.BroughtLaws.{brought-is, brought-row}
+use Rattle.round_inputs.specs.InputLaws.{some-is}
 use Rattle.round_kernel.proofs.Visits.{marked-first, marked-own, marked-got}
 use Rattle.round_kernel.proofs.Stillness.{itself, own-same, same-rounds}
 use Rattle.round_kernel.proofs.visit.is_other_input.Goals as goal
@@ -32,7 +33,7 @@ returns-in-Some g c =
     let all = c.args.rows.now.by_head in
     let new = c.args.sides.now.new in
     let before = c.args.sides.now.before.now in
-    let told = c.args.aids.now.told in
+    let suspects = c.args.lookups.now.suspects in
     let v = c.args.spot.node.0 in
     let r = c.args.spot.round in
     let later : 0 < r = omega arith in
@@ -41,7 +42,7 @@ returns-in-Some g c =
     let ns = all_brought p graph new.edges.now new.degrees.now before (row_of all v) in
     let own : false ≡ not (same_value (value_at new.values.now v) (value_at before v)) = elim c.else-moves.branch [
       | else-moves-via-then-moves+else-is_other w ↦ sym w.if-is_other.false ∙ w.is_other.ensures
-      | else-moves-via-else-moves w ↦ own-same answer p graph all c.args.spot.first c.args.sides.now.old.edges.now new.edges.now r told c.requires.aided.told c.requires.rows.arcs v later c.deref.result.now c.stamp_of.result c.deref.ensures.value c.stamp_of.ensures
+      | else-moves-via-else-moves w ↦ own-same answer p graph all c.args.spot.first c.args.sides.now.old.edges.now new.edges.now r suspects c.requires.lookups.suspects c.requires.rows.arcs v later c.deref.result.now c.stamp_of.result c.deref.ensures.value c.stamp_of.ensures
           c.requires.node (sym c.moves.ensures ∙ w.if-moves.false) new.values.now before c.requires.new.values_are c.requires.before.values_are
     ] in
     marked-got answer p graph (arcs_in all new.edges.now) v r (r - 1) at new.values.now before ms ns
@@ -55,7 +56,7 @@ pub are_still-requires : goal.are_still-requires
 are_still-requires g c =
     subst (λ (xs : List Arc). All (λ a. a.tail.0 < length c.deref.result.now) xs) (sym c.into-row.ensures)
     (All-filter (λ (a : Arc). a.head.0 == c.args.spot.node.0) (λ a. a.tail.0 < length c.deref.result.now) c.args.rows.now.by_head
-    (All-weaker (IsArc c.args.graph.now) (λ a. a.tail.0 < length c.deref.result.now) (λ a arc. omega (arith, arc.tail, c.requires.aided.told.moved_size, c.deref.ensures.len)) c.args.rows.now.by_head c.requires.rows.arcs))
+    (All-weaker (IsArc c.args.graph.now) (λ a. a.tail.0 < length c.deref.result.now) (λ a arc. omega (arith, arc.tail, c.requires.lookups.suspects.moved_size, c.deref.ensures.len)) c.args.rows.now.by_head c.requires.rows.arcs))
 
 pub returns-then-are_still : goal.returns-then-are_still
 returns-then-are_still g c =
@@ -64,7 +65,7 @@ returns-then-are_still g c =
     let graph = c.args.graph.now in
     let all = c.args.rows.now.by_head in
     let new = c.args.sides.now.new in
-    let told = c.args.aids.now.told in
+    let suspects = c.args.lookups.now.suspects in
     let v = c.args.spot.node.0 in
     let r = c.args.spot.round in
     let later : 0 < r = omega arith in
@@ -74,12 +75,12 @@ returns-then-are_still g c =
     let before = got_values answer p graph (arcs_in all new.edges.now) v (r - 1) in
     let own : false ≡ not (same_value (value_at new.values.now v) (value_at values v)) = elim c.else-moves.branch [
       | else-moves-via-then-moves+else-is_other w ↦ sym w.if-is_other.false ∙ w.is_other.ensures
-      | else-moves-via-else-moves w ↦ own-same answer p graph all c.args.spot.first c.args.sides.now.old.edges.now new.edges.now r told c.requires.aided.told c.requires.rows.arcs v later c.deref.result.now c.stamp_of.result c.deref.ensures.value c.stamp_of.ensures
+      | else-moves-via-else-moves w ↦ own-same answer p graph all c.args.spot.first c.args.sides.now.old.edges.now new.edges.now r suspects c.requires.lookups.suspects c.requires.rows.arcs v later c.deref.result.now c.stamp_of.result c.deref.ensures.value c.stamp_of.ensures
           c.requires.node (sym c.moves.ensures ∙ w.if-moves.false) new.values.now values c.requires.new.values_are c.requires.before.values_are
     ] in
     marked-got answer p graph (arcs_in all new.edges.now) v r (r - 1) at new.values.now values now before false false c.requires.new.values_are c.requires.before.values_are
     refl refl own refl
-    (itself now before (same-rounds answer p graph all c.args.spot.first c.args.sides.now.old.edges.now new.edges.now r told c.requires.aided.told c.requires.rows.arcs v later c.deref.result.now c.stamp_of.result c.deref.ensures.value c.stamp_of.ensures
+    (itself now before (same-rounds answer p graph all c.args.spot.first c.args.sides.now.old.edges.now new.edges.now r suspects c.requires.lookups.suspects c.requires.rows.arcs v later c.deref.result.now c.stamp_of.result c.deref.ensures.value c.stamp_of.ensures
     c.into-row.result.now c.into-row.ensures (c.are_still.ensures c.if-are_still.true)))
 
 pub differ-requires-clause-row : goal.differ-requires-clause-row
@@ -93,14 +94,14 @@ returns g c =
     let all = c.args.rows.now.by_head in
     let new = c.args.sides.now.new in
     let before = c.args.sides.now.before.now in
-    let told = c.args.aids.now.told in
+    let suspects = c.args.lookups.now.suspects in
     let v = c.args.spot.node.0 in
     let r = c.args.spot.round in
     let later : 0 < r = omega arith in
     let at : r ≡ suc (r - 1) = omega arith in
     let own : false ≡ not (same_value (value_at new.values.now v) (value_at before v)) = elim c.else-moves.branch [
       | else-moves-via-then-moves+else-is_other w ↦ sym w.if-is_other.false ∙ w.is_other.ensures
-      | else-moves-via-else-moves w ↦ own-same answer p graph all c.args.spot.first c.args.sides.now.old.edges.now new.edges.now r told c.requires.aided.told c.requires.rows.arcs v later c.deref.result.now c.stamp_of.result c.deref.ensures.value c.stamp_of.ensures
+      | else-moves-via-else-moves w ↦ own-same answer p graph all c.args.spot.first c.args.sides.now.old.edges.now new.edges.now r suspects c.requires.lookups.suspects c.requires.rows.arcs v later c.deref.result.now c.stamp_of.result c.deref.ensures.value c.stamp_of.ensures
           c.requires.node (sym c.moves.ensures ∙ w.if-moves.false) new.values.now before c.requires.new.values_are c.requires.before.values_are
     ] in
     marked-got answer p graph (arcs_in all new.edges.now) v r (r - 1) at new.values.now before

@@ -8,11 +8,12 @@ use Rattle.vertex_lang.specs.Arcs.{IsArc}
 use Rattle.lone_work.specs.Inputs.{got_values}
 use Rattle.vertex_lang.specs.Lone.{same_value}
 use Rattle.multisets.specs.Multisets.{are_one}
-use Rattle.round_kernel.specs.Sides.{arcs_in, all_brought, row_of}
-use Rattle.round_kernel.proofs.Brought.{brought-is, brought-row}
-use Rattle.round_kernel.proofs.Listed.{some-is}
+use Rattle.arc_rows.specs.Views.{arcs_in, row_of}
+use Rattle.round_messages.specs.Sides.{all_brought}
+use Rattle.round_inputs.specs.BroughtLaws.{brought-is, brought-row}
+use Rattle.round_inputs.specs.InputLaws.{some-is}
 use Rattle.round_kernel.proofs.Visits.{touched-yes, touched-test}
-use Rattle.round_kernel.proofs.Feeding.{sent-under}
+use Rattle.round_inputs.specs.SourceLaws.{sent-under}
 use Rattle.round_kernel.proofs.Stillness.{itself, or-first, same-views}
 use Rattle.round_kernel.proofs.Turning.{none-turned, turned-into}
 use Rattle.round_kernel.proofs.visit.is_touched.Goals as goal
@@ -26,13 +27,13 @@ differ_if_listed-requires-clause-still g c = λ u e low apart.
     let new = c.args.sides.now.new in
     let old = c.args.sides.now.old in
     sent-under g.U.Updater.answer c.args.program.now c.args.graph.now c.args.rows.now.by_head new.edges.now new.degrees.now new.values.now c.args.spot.round c.requires.new u e low
-    ∙ c.requires.aided.told.apart one u e low (ap (λ (bs : List Bool). get_or bs u false) (sym c.deref.ensures.value) ∙ apart)
+    ∙ c.requires.lookups.suspects.apart one u e low (ap (λ (bs : List Bool). get_or bs u false) (sym c.deref.ensures.value) ∙ apart)
     ∙ sym (sent-under g.U.Updater.answer c.args.program.now c.args.graph.now c.args.rows.now.by_head old.edges.now old.degrees.now old.values.now c.args.spot.round (c.requires.old one) u e low)
 
 pub differ_if_listed-requires-clause-turned : goal.differ_if_listed-requires-clause-turned
 differ_if_listed-requires-clause-turned g c =
     let one : c.args.spot.first ≡ false = or-first c.args.spot.first c.args.touched (sym c.either.ensures ∙ c.if-either.false) in
-    turned-into c.args.graph.now c.args.rows.now.by_head c.args.spot.first c.args.sides.now.old.edges.now c.args.sides.now.new.edges.now c.args.aids.now.told.turned c.requires.aided.told.turned one c.args.spot.node.0
+    turned-into c.args.graph.now c.args.rows.now.by_head c.args.spot.first c.args.sides.now.old.edges.now c.args.sides.now.new.edges.now c.args.lookups.now.suspects.turned c.requires.lookups.suspects.turned one c.args.spot.node.0
     (row_of c.args.rows.now.by_head c.args.spot.node.0) c.turned_into-turned.result.now refl c.turned_into-turned.ensures
 
 pub returns-in-Some : goal.returns-in-Some
@@ -57,7 +58,7 @@ pub are_still-requires : goal.are_still-requires
 are_still-requires g c =
     subst (λ (xs : List Arc). All (λ a. a.tail.0 < length c.deref.result.now) xs) (sym c.into-row.ensures)
     (All-filter (λ (a : Arc). a.head.0 == c.args.spot.node.0) (λ a. a.tail.0 < length c.deref.result.now) c.args.rows.now.by_head
-    (All-weaker (IsArc c.args.graph.now) (λ a. a.tail.0 < length c.deref.result.now) (λ a arc. omega (arith, arc.tail, c.requires.aided.told.apart_size, c.deref.ensures.len)) c.args.rows.now.by_head c.requires.rows.arcs))
+    (All-weaker (IsArc c.args.graph.now) (λ a. a.tail.0 < length c.deref.result.now) (λ a arc. omega (arith, arc.tail, c.requires.lookups.suspects.apart_size, c.deref.ensures.len)) c.args.rows.now.by_head c.requires.rows.arcs))
 
 pub returns-then-are_still : goal.returns-then-are_still
 returns-then-are_still g c =
@@ -67,7 +68,7 @@ returns-then-are_still g c =
     let all = c.args.rows.now.by_head in
     let new = c.args.sides.now.new.edges.now in
     let old = c.args.sides.now.old.edges.now in
-    let told = c.args.aids.now.told in
+    let suspects = c.args.lookups.now.suspects in
     let v = c.args.spot.node.0 in
     let r = c.args.spot.round in
     let neither : (c.args.spot.first || c.args.touched) ≡ false = sym c.either.ensures ∙ c.if-either.false in
@@ -76,8 +77,8 @@ returns-then-are_still g c =
     (got_values answer p graph (arcs_in all new) v r) (got_values answer p graph (arcs_in all old) v r)
     c.requires.node c.requires.touched neither (λ e. refl) (λ e. refl)
     (itself (got_values answer p graph (arcs_in all new) v r) (got_values answer p graph (arcs_in all old) v r)
-    (same-views answer p graph all c.args.spot.first old new r told c.requires.aided.told c.requires.rows.arcs v (or-first c.args.spot.first c.args.touched neither)
-    (none-turned graph all c.args.spot.first old new told.turned c.requires.aided.told.turned (or-first c.args.spot.first c.args.touched neither) v c.turned_into-turned.result.now c.turned_into-turned.ensures (nil_from_length c.turned_into-turned.result.now (eqb-true (length c.turned_into-turned.result.now) 0 (sym c.is_empty.ensures ∙ c.if-is_empty.true)))) c.into-row.result.now c.into-row.ensures still))
+    (same-views answer p graph all c.args.spot.first old new r suspects c.requires.lookups.suspects c.requires.rows.arcs v (or-first c.args.spot.first c.args.touched neither)
+    (none-turned graph all c.args.spot.first old new suspects.turned c.requires.lookups.suspects.turned (or-first c.args.spot.first c.args.touched neither) v c.turned_into-turned.result.now c.turned_into-turned.ensures (nil_from_length c.turned_into-turned.result.now (eqb-true (length c.turned_into-turned.result.now) 0 (sym c.is_empty.ensures ∙ c.if-is_empty.true)))) c.into-row.result.now c.into-row.ensures still))
 
 pub differ-requires-clause-row : goal.differ-requires-clause-row
 differ-requires-clause-row g c = subst (λ (xs : List Arc). All (IsArc c.args.graph.now) xs) (sym c.into-row.ensures) (All-filter (λ (a : Arc). a.head.0 == c.args.spot.node.0) (IsArc c.args.graph.now) c.args.rows.now.by_head c.requires.rows.arcs)
@@ -88,13 +89,13 @@ differ-requires-clause-still g c = λ u e low apart.
     let new = c.args.sides.now.new in
     let old = c.args.sides.now.old in
     sent-under g.U.Updater.answer c.args.program.now c.args.graph.now c.args.rows.now.by_head new.edges.now new.degrees.now new.values.now c.args.spot.round c.requires.new u e low
-    ∙ c.requires.aided.told.apart one u e low (ap (λ (bs : List Bool). get_or bs u false) (sym c.deref.ensures.value) ∙ apart)
+    ∙ c.requires.lookups.suspects.apart one u e low (ap (λ (bs : List Bool). get_or bs u false) (sym c.deref.ensures.value) ∙ apart)
     ∙ sym (sent-under g.U.Updater.answer c.args.program.now c.args.graph.now c.args.rows.now.by_head old.edges.now old.degrees.now old.values.now c.args.spot.round (c.requires.old one) u e low)
 
 pub differ-requires-clause-turned : goal.differ-requires-clause-turned
 differ-requires-clause-turned g c =
     let one : c.args.spot.first ≡ false = or-first c.args.spot.first c.args.touched (sym c.either.ensures ∙ c.if-either.false) in
-    turned-into c.args.graph.now c.args.rows.now.by_head c.args.spot.first c.args.sides.now.old.edges.now c.args.sides.now.new.edges.now c.args.aids.now.told.turned c.requires.aided.told.turned one c.args.spot.node.0
+    turned-into c.args.graph.now c.args.rows.now.by_head c.args.spot.first c.args.sides.now.old.edges.now c.args.sides.now.new.edges.now c.args.lookups.now.suspects.turned c.requires.lookups.suspects.turned one c.args.spot.node.0
     c.into-row.result.now c.turned_into-turned.result.now c.into-row.ensures c.turned_into-turned.ensures
 
 pub returns : goal.returns

@@ -1,6 +1,6 @@
 use Rattle.std.proofs.Common.{◌∙◌, ap, sym, ℕ, Bool}
 use Rattle.std.specs.Prelude.{if◌then◌else◌}
-use Rattle.round_kernel.specs.Sides.{arcs_in}
+use Rattle.arc_rows.specs.Views.{arcs_in}
 use Rattle.round_kernel.specs.Rounds.{old_view}
 use Rattle.round_kernel.proofs.Visits.{not-counted}
 use Rattle.round_kernel.proofs.visit.visit.Goals as goal

@@ -2,11 +2,11 @@ use Rattle.std.proofs.Common.{◌∙◌, ◌++◌, ◌+◌, ap, sym, ℕ, Bool}
 use Rattle.std.specs.Prelude.{if◌then◌else◌}
 use Rattle.std.proofs.lemmas.List.{append-nil}
 use Rattle.vertex_lang.specs.Rounds.{value_at, lone}
-use Rattle.round_kernel.specs.Sides.{arcs_in}
+use Rattle.arc_rows.specs.Views.{arcs_in}
 use Rattle.round_kernel.specs.Rounds.{old_view}
-use Rattle.round_kernel.specs.Made.{change_if}
-use Rattle.round_kernel.specs.declared.tally.Tally.{Tally}
-use Rattle.round_kernel.specs.Tallies.{kept_of}
+use Rattle.change_lists.specs.ChangeLists.{change_if}
+use Rattle.value_codes.specs.declared.tally.Tally.{Tally}
+use Rattle.value_codes.specs.Tallies.{kept_of}
 use Rattle.round_kernel.proofs.Visits.{marked-first, counted-where, stays-unchanged}
 use Rattle.round_kernel.proofs.visit.visit_again.Goals as goal
 

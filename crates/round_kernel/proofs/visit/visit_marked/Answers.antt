@@ -1,9 +1,9 @@
 use Rattle.std.proofs.Common.{◌∙◌, ap, sym, ℕ, Bool}
 use Rattle.std.specs.Prelude.{if◌then◌else◌}
-use Rattle.round_kernel.specs.Sides.{arcs_in}
+use Rattle.arc_rows.specs.Views.{arcs_in}
 use Rattle.round_kernel.specs.Rounds.{old_view}
-use Rattle.round_kernel.specs.declared.tally.Tally.{Tally}
-use Rattle.round_kernel.specs.Tallies.{kept_of}
+use Rattle.value_codes.specs.declared.tally.Tally.{Tally}
+use Rattle.value_codes.specs.Tallies.{kept_of}
 use Rattle.round_kernel.proofs.Visits.{counted-marked}
 use Rattle.round_kernel.proofs.visit.visit_marked.Goals as goal
 

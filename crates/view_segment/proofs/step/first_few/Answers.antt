@@ -5,7 +5,8 @@ use Rattle.vertex_lang.specs.Lone.{number_of, answer_of}
 use Rattle.vertex_lang.specs.Rounds.{lone}
 use Rattle.lone_work.specs.Work.{work}
 use Rattle.round_kernel.specs.declared.step.Stepped.{Stepped}
-use Rattle.round_kernel.specs.Histories.{IsHistory, all_from}
+use Rattle.round_kernel.specs.Histories.{IsHistory}
+use Rattle.change_lists.specs.ChangeLists.{all_from}
 use Rattle.view_segment.proofs.step.first_few.Goals as goal
 
 pub returns-clause-history : goal.returns-clause-history

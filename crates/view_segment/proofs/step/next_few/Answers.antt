@@ -5,15 +5,16 @@ use Rattle.vertex_lang.specs.Lone.{number_of, answer_of}
 use Rattle.vertex_lang.specs.Rounds.{lone}
 use Rattle.lone_work.specs.Work.{work}
 use Rattle.round_kernel.specs.declared.step.Stepped.{Stepped}
-use Rattle.round_kernel.specs.Histories.{IsHistory, changes_from}
-use Rattle.round_kernel.specs.RowLaws.{all-along}
-use Rattle.round_kernel.specs.Sides.{arcs_in}
+use Rattle.round_kernel.specs.Histories.{IsHistory}
+use Rattle.change_lists.specs.ChangeLists.{changes_from}
+use Rattle.arc_rows.specs.RowLaws.{all-along}
+use Rattle.arc_rows.specs.Views.{arcs_in}
 use Rattle.view_segment.proofs.step.next_few.Goals as goal
 
 pub next_step-requires-clause-along : goal.next_step-requires-clause-along
 next_step-requires-clause-along g c =
     let s = c.args.setting in
-    c.in_ok-chosen.ensures.along s.program.now.along (all-along s.program.now.along s.graph.now c.args.rows.now c.requires.setting.along)
+    c.in_ok-chosen.ensures.along s.program.now.along (all-along s.program.now.along s.graph.now c.args.kernel.now.rows c.requires.setting.along)
 
 pub next_step-requires-clause-history : goal.next_step-requires-clause-history
 next_step-requires-clause-history g c =
@@ -35,8 +36,8 @@ returns-clause-change g c =
     let s = c.args.setting in
     let answer = g.U.Updater.answer in
     let n = number_of s.rounds in
-    let kept = c.in_ok-chosen.chosen.by_head in
-    subst (λ (xs : List Arc). IfOk c.next_step.result (λ (t : Stepped). t.change ≡ changes_from 0 (lone answer s.program.now s.graph.now xs n) (lone answer s.program.now s.graph.now (arcs_in c.args.rows.now.by_head c.args.new.now) n))) c.in_ok-chosen.ensures.old
+    let kept = c.in_ok-chosen.chosen.rows.by_head in
+    subst (λ (xs : List Arc). IfOk c.next_step.result (λ (t : Stepped). t.change ≡ changes_from 0 (lone answer s.program.now s.graph.now xs n) (lone answer s.program.now s.graph.now (arcs_in c.args.kernel.now.rows.by_head c.args.new.now) n))) c.in_ok-chosen.ensures.old
     (subst (λ (xs : List Arc). IfOk c.next_step.result (λ (t : Stepped). t.change ≡ changes_from 0 (lone answer s.program.now s.graph.now (arcs_in kept c.args.old.now) n) (lone answer s.program.now s.graph.now xs n))) c.in_ok-chosen.ensures.new c.next_step.ensures.change)
 
 pub returns-clause-work : goal.returns-clause-work
@@ -44,6 +45,6 @@ returns-clause-work g c =
     let s = c.args.setting in
     let answer = g.U.Updater.answer in
     let n = number_of s.rounds in
-    let kept = c.in_ok-chosen.chosen.by_head in
-    subst (λ (xs : List Arc). IfOk c.next_step.result (λ (t : Stepped). t.work ≡ work answer s.program.now s.graph.now (arcs_in c.args.rows.now.by_head c.args.new.now) (Some xs) n)) c.in_ok-chosen.ensures.old
+    let kept = c.in_ok-chosen.chosen.rows.by_head in
+    subst (λ (xs : List Arc). IfOk c.next_step.result (λ (t : Stepped). t.work ≡ work answer s.program.now s.graph.now (arcs_in c.args.kernel.now.rows.by_head c.args.new.now) (Some xs) n)) c.in_ok-chosen.ensures.old
     (subst (λ (xs : List Arc). IfOk c.next_step.result (λ (t : Stepped). t.work ≡ work answer s.program.now s.graph.now xs (Some (arcs_in kept c.args.old.now)) n)) c.in_ok-chosen.ensures.new c.next_step.ensures.work)

@@ -10,5 +10,5 @@ first_within-requires-clause-edges g c =
 pub returns-clause-step : goal.returns-clause-step
 returns-clause-step g c =
     let step = c.in_ok-stepped.ensures in
-    first-given g.U.Updater.answer c.args.setting c.args.rows.now c.requires.setting c.args.view.0 c.deref.result.now (c.deref.ensures.value ∙ c.in_ok-edges.ensures) c.in_ok-stepped.stepped
+    first-given g.U.Updater.answer c.args.setting c.args.kernel.now c.requires.setting c.args.view.0 c.deref.result.now (c.deref.ensures.value ∙ c.in_ok-edges.ensures) c.in_ok-stepped.stepped
     step.history step.outcome step.change step.work

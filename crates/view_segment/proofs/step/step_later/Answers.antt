@@ -1,7 +1,7 @@
 use Rattle.std.proofs.Common.{◌∙◌, ◌<◌, ℕ, Bool, List, Some, length, sym, ap, subst}
 use Rattle.std.specs.Prelude.{All}
 use Rattle.graph_model.specs.declared.number.EdgeNo.{EdgeNo}
-use Rattle.round_kernel.specs.Steps.{TellsAll}
+use Rattle.arc_rows.specs.Views.{TellsAll}
 use Rattle.view_matrix.specs.Matrices.{apart}
 use Rattle.view_segment.proofs.Choosing.{flags-count, apart-tells, apart-within}
 use Rattle.view_segment.proofs.Stepping.{later-given, history-before}
@@ -50,7 +50,7 @@ next_within-requires-clause-all_turned g c =
 
 pub next_within-requires-clause-history : goal.next_within-requires-clause-history
 next_within-requires-clause-history g c =
-    history-before g.U.Updater.answer c.args.setting c.args.rows.now c.requires.setting c.args.before.0 c.deref-2.result.now c.args.history.now (c.deref-2.ensures.value ∙ c.in_ok-old.ensures) c.requires.history
+    history-before g.U.Updater.answer c.args.setting c.args.kernel.now c.requires.setting c.args.before.0 c.deref-2.result.now c.args.history.now (c.deref-2.ensures.value ∙ c.in_ok-old.ensures) c.requires.history
 
 pub returns-clause-step : goal.returns-clause-step
 returns-clause-step g c =
@@ -59,7 +59,7 @@ returns-clause-step g c =
     let v = c.args.view.0 in
     let new = turned-by m u v c.deref.result.now c.in_ok-new.new.items c.as_slice.result.now (c.deref.ensures.value ∙ c.in_ok-old.ensures) (c.as_slice.ensures ∙ c.in_ok-turned.ensures) c.in_ok-new.ensures in
     let step = c.in_ok-stepped.ensures in
-    later-given g.U.Updater.answer c.args.setting c.args.rows.now c.requires.setting c.args.view.0 c.deref-3.result.now (c.deref-3.ensures.value ∙ new) c.in_ok-stepped.stepped step.history step.outcome
+    later-given g.U.Updater.answer c.args.setting c.args.kernel.now c.requires.setting c.args.view.0 c.deref-3.result.now (c.deref-3.ensures.value ∙ new) c.in_ok-stepped.stepped step.history step.outcome
     c.args.before.0 c.deref-2.result.now (c.deref-2.ensures.value ∙ c.in_ok-old.ensures) step.change step.work
 
 pub returns-clause-flags : goal.returns-clause-flags

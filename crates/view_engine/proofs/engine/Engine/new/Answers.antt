@@ -10,7 +10,7 @@ use Rattle.view_engine.proofs.engine.Engine.new.Goals as goal
 pub fill-requires : goal.fill-requires
 fill-requires c = record {
   engine = first_engine _
-      (record { segments = c.new.ensures.items; held = c.new-2.ensures.held; nodes = c.new-2.ensures.nodes ∙ c.node_count.ensures.count; rows = refl; assigned = refl; later = refl })
+      (record { segments = c.new.ensures.items; held = c.new-2.ensures.held; nodes = c.new-2.ensures.nodes ∙ c.node_count.ensures.count; kernel = refl; assigned = refl; later = refl })
       c.requires.checked c.requires.some c.requires.limit (omega (arith, c.node_count.ensures.count, c.node_count.ensures.limit)) c.requires.split
       (omega (arith, ap length c.in_ok-copied.ensures, c.requires.few));
   views = subst (All (IsView c.args.matrix.now)) (sym c.in_ok-copied.ensures) c.requires.views;
@@ -29,7 +29,7 @@ returns c =
       order = c.in_ok-copied.field-0;
       segments = c.new.result;
       results = c.new-2.result;
-      rows = None;
+      kernel = None;
       assigned = 0;
       later = 0;
       spent = false;
@@ -38,7 +38,7 @@ returns c =
       segments = c.new.ensures.items;
       held = c.new-2.ensures.held;
       nodes = c.new-2.ensures.nodes ∙ c.node_count.ensures.count;
-      rows = refl;
+      kernel = refl;
       assigned = refl;
       later = refl;
     } in

@@ -5,7 +5,8 @@ use Rattle.graph_model.specs.declared.number.NodeNo.{NodeNo}
 use Rattle.graph_model.specs.declared.value.Val.{Val}
 use Rattle.view_matrix.specs.Matrices.{IsView}
 use Rattle.result_tables.specs.Results.{IsChange, with_answer}
-use Rattle.round_kernel.specs.RowLaws.{all-still}
+use Rattle.arc_rows.specs.declared.rows.Rows.{Rows}
+use Rattle.arc_rows.specs.RowLists.{AreOfAll}
 use Rattle.view_segment.specs.declared.segment.Segment.{Segment}
 use Rattle.view_segment.specs.Segments.{last_stepped}
 use Rattle.view_segment.specs.Tasks.{work_of}
@@ -68,14 +69,14 @@ returns g c =
     record {
       engine = on_ok c.add_change.result
           (λ kept. engine_now g.U.Updater.answer m e engine stands k s at given is t work c.in_ok-given.ensures.views c.in_ok-given.ensures.work c.in_ok-given.ensures.stands
-          segments (Some c.step.new.rows) c.add_change.new.self refl (kept ∙ same) refl (c.in_ok-given.ensures.rows, all-still c.args.self.now.program.now.along c.args.self.now.graph.now c.in_ok-rows.rows c.step.new.rows c.step.ensures.arcs c.in_ok-rows.ensures.1))
+          segments (Some c.step.new.kernel) c.add_change.new.self refl (kept ∙ same) refl (c.in_ok-given.ensures.kernel, subst (λ (rows : Rows). AreOfAll e.program.now.along e.graph.now rows) (sym c.step.ensures.rows) c.in_ok-kernel.ensures.1))
           c.add_change.ensures.ok;
       moved = on_ok c.add_change.result
           (λ kept. has_stepped g.U.Updater.answer m e engine stands k s at given is t work c.in_ok-given.ensures.views c.in_ok-given.ensures.work c.in_ok-given.ensures.stands
-          segments (Some c.step.new.rows) c.add_change.new.self refl (kept ∙ same) (g.U.Counted.calls c.args.updater.now) (g.U.Counted.calls c.step.new.updater) c.in_ok-given.ensures.calls)
+          segments (Some c.step.new.kernel) c.add_change.new.self refl (kept ∙ same) (g.U.Counted.calls c.args.updater.now) (g.U.Counted.calls c.step.new.updater) c.in_ok-given.ensures.calls)
           c.add_change.ensures.ok;
       stands = on_ok c.add_change.result
           (λ kept. so_far_now g.U.Updater.answer m e engine stands k s at given is t work c.in_ok-given.ensures.views c.in_ok-given.ensures.work c.in_ok-given.ensures.stands
-          segments (Some c.step.new.rows) c.add_change.new.self refl (kept ∙ same))
+          segments (Some c.step.new.kernel) c.add_change.new.self refl (kept ∙ same))
           c.add_change.ensures.ok;
     }

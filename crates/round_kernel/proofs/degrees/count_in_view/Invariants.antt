@@ -1,9 +1,0 @@
-use Rattle.std.proofs.Common.{◌≡◌, ◌≤◌, length, take}
-use Rattle.round_kernel.specs.Sides.{arcs_in}
-use Rattle.round_kernel.proofs.degrees.count_in_view.Given as goal
-
-abbrev pub invariant-loop-arc : goal.invariant-loop-arc
-invariant-loop-arc l = record {
-  counted : l.count ≡ length (arcs_in (take l.arc-index l.row) l.edges);
-  few : l.count ≤ l.arc-index;
-}

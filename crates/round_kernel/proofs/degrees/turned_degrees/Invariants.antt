@@ -1,6 +1,0 @@
-use Rattle.std.specs.Prelude.{take}
-use Rattle.round_kernel.proofs.Leaving.{AreTurning}
-use Rattle.round_kernel.proofs.degrees.turned_degrees.Given as goal
-
-abbrev pub invariant-loop-arc : goal.invariant-loop-arc
-invariant-loop-arc l = AreTurning l.graph l.rows.by_head l._old l.new (take l.arc-index l.turned) l.degrees.items l.done.items

@@ -1,7 +1,0 @@
-use Rattle.std.proofs.Common.{length, take}
-use Rattle.round_kernel.specs.Lives.{ArePut}
-use Rattle.round_kernel.specs.Links.{tail_of}
-use Rattle.round_kernel.proofs.live.put_tails.Given as goal
-
-abbrev pub invariant-loop-arc : goal.invariant-loop-arc
-invariant-loop-arc l = ArePut tail_of l.edges l.from (length l.row) (take l.arc-index l.row) l.count l.initial.tails.items l.tails.items

@@ -1,6 +1,0 @@
-use Rattle.std.proofs.Common.{take}
-use Rattle.round_kernel.specs.Numbers.{AreNumbers}
-use Rattle.round_kernel.proofs.numbers.numbers_of.Given as goal
-
-abbrev pub invariant-loop-value : goal.invariant-loop-value
-invariant-loop-value l = AreNumbers (take l.value-index l.values) l.numbers.items

@@ -1,7 +1,0 @@
-use Rattle.std.proofs.Common.{◌≡◌, take, false}
-use Rattle.std.specs.Prelude.{All}
-use Rattle.round_kernel.specs.Telling.{moves}
-use Rattle.round_kernel.proofs.told.Movers.are_still.Given as goal
-
-abbrev pub invariant-loop-arc : goal.invariant-loop-arc
-invariant-loop-arc l = All (λ a. moves l.self a.tail.0 ≡ false) (take l.arc-index l.row)

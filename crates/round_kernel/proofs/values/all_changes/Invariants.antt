@@ -1,6 +1,0 @@
-use Rattle.std.proofs.Common.{◌≡◌, take}
-use Rattle.round_kernel.specs.Histories.{all_from}
-use Rattle.round_kernel.proofs.values.all_changes.Given as goal
-
-abbrev pub invariant-loop-node : goal.invariant-loop-node
-invariant-loop-node l = l.changes ≡ all_from 0 (take l.node l.new)

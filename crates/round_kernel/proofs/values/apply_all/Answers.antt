@@ -1,7 +1,0 @@
-use Rattle.round_kernel.proofs.Messages.{messages-sent}
-use Rattle.round_kernel.proofs.values.apply_all.Goals as goal
-
-pub follow-requires-clause-messages : goal.follow-requires-clause-messages
-follow-requires-clause-messages c =
-    messages-sent c.args.program.now c.args.graph.now c.args.degrees.now c.in-Some.added (c.in-Some.ensures c.args.program.now c.form_of-form.ensures) c.args.now.now c.args.sent.now c.requires.size
-    (λ e. c.requires.sent c.if-alike.true)
