@@ -1,7 +1,7 @@
 -- A segment of which no view was stepped stands for each task.
 use Rattle.std.proofs.Common.{Vec, Global, Bool, ◌≡◌, ◌∙◌, ℕ, List, [], ◌∷◌, None, Option, length, take, sym, ap, subst, refl, arith}
 use Rattle.std.specs.Prelude.{IfSome}
-use Rattle.round_kernel.specs.declared.history.History.{History}
+use Rattle.change_lists.specs.declared.history.History.{History}
 use Rattle.view_order.specs.Greedy.{numbers}
 use Rattle.view_segment.specs.declared.segment.Segment.{Segment}
 use Rattle.view_segment.specs.Segments.{HistoryOf, FlagsOf, SegmentStands, last_of, last_stepped}

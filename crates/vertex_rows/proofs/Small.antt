@@ -8,7 +8,7 @@ use Rattle.graph_model.specs.declared.number.EdgeNo.{EdgeNo}
 use Rattle.graph_model.specs.GraphData.{GraphData}
 use Rattle.vertex_lang.specs.declared.program.Program.{Program}
 use Rattle.vertex_lang.specs.Leaves.{Leaf, IsChecked, leaves_of, in_start, in_send, in_update}
-use Rattle.round_kernel.specs.RowLists.{edge}
+use Rattle.arc_rows.specs.RowLists.{edge}
 
 pub fits : (p : Program) (graph : GraphData) (start send update : List Leaf)
     → leaves_of p.start ≡ start → leaves_of p.send ≡ send → leaves_of p.update ≡ update

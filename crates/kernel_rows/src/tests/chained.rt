@@ -1,7 +1,7 @@
 //! Lists of which the short ones lie one behind the other.
 
+use change_lists::ChainedLists;
 use graph_model::NodeNo;
-use round_kernel::ChainedLists;
 use std::test::Fail;
 use surge_outside::List;
 

@@ -5,14 +5,16 @@ ghost use Rattle.vertex_lang.specs.Arcs.{IsArc};
 ghost use Rattle.vertex_lang.specs.Leaves.{IsChecked};
 ghost use Rattle.vertex_lang.specs.Lone.{number_of, answer_of};
 ghost use Rattle.lone_work.specs.Work.{work};
-ghost use Rattle.round_kernel.specs.Sides.{arcs_in};
+ghost use Rattle.arc_rows.specs.Views.{arcs_in};
 ghost use Rattle.round_kernel.specs.Histories.{IsHistory};
-ghost use Rattle.round_kernel.specs.RowLists.{AreRows};
-ghost use Rattle.round_kernel.specs.Steps.{TellsAll, AreAlong};
+ghost use Rattle.round_kernel.specs.Kernels.{IsKernel};
+ghost use Rattle.arc_rows.specs.Views.{TellsAll};
+ghost use Rattle.arc_rows.specs.RowLists.{AreAlong};
 
+use change_lists::{Change, History};
 use graph_model::{EdgeNo, Graph, Val};
 use lone_work::{count_first_work, count_work};
-use round_kernel::{Change, History, Rows, Stepped, first_step, next_step};
+use round_kernel::{Kernel, Stepped, first_step, next_step};
 use std::alloc::Global;
 use surge_outside::{List, NoMemory};
 use vertex_lang::{Along, Arc, Outcome, Program, Rounds, Updater, arcs_of, lone_run};
@@ -215,7 +217,7 @@ fn later_step<U: Updater>(
     alloc: Global,
     program: &Program,
     graph: &Graph,
-    rows: &mut Rows,
+    kernel: &mut Kernel,
     history: &History,
     old: &[bool],
     new: &[bool],
@@ -223,23 +225,23 @@ fn later_step<U: Updater>(
     updater: &mut U,
 ) -> Result<Stepped, NoMemory>
     requires checked { IsChecked program.now graph.now }
-    requires rows { AreRows graph.now rows.old }
-    requires along { AreAlong program.now.along graph.now rows.old }
+    requires kernel { IsKernel graph.now kernel.old }
+    requires along { AreAlong program.now.along graph.now kernel.old.rows }
     requires old { length old.now ≡ length graph.now.ends }
     requires new { length new.now ≡ length graph.now.ends }
     requires some { 1 ≤ number_of rounds }
     requires limit { number_of rounds ≤ 1_000_000 }
-    requires history { IsHistory U.answer program.now graph.now (Some (arcs_in rows.old.by_head old.now)) (number_of rounds) history.now }
-    ensures rows { OnOk result (AreRows graph.now rows.new) }
-    ensures arcs { rows.new.by_head ≡ rows.old.by_head }
-    ensures history { IfOk result (λ s. IsHistory U.answer program.now graph.now (Some (arcs_in rows.old.by_head new.now)) (number_of rounds) s.history) }
-    ensures outcome { IfOk result (λ s. s.outcome ≡ (answer_of U.answer program.now graph.now (arcs_in rows.old.by_head new.now) rounds).outcome) }
-    ensures work { IfOk result (λ s. s.work ≡ work U.answer program.now graph.now (arcs_in rows.old.by_head new.now) (Some (arcs_in rows.old.by_head old.now)) (number_of rounds)) }
+    requires history { IsHistory U.answer program.now graph.now (Some (arcs_in kernel.old.rows.by_head old.now)) (number_of rounds) history.now }
+    ensures kernel { OnOk result (IsKernel graph.now kernel.new) }
+    ensures rows { kernel.new.rows ≡ kernel.old.rows }
+    ensures history { IfOk result (λ s. IsHistory U.answer program.now graph.now (Some (arcs_in kernel.old.rows.by_head new.now)) (number_of rounds) s.history) }
+    ensures outcome { IfOk result (λ s. s.outcome ≡ (answer_of U.answer program.now graph.now (arcs_in kernel.old.rows.by_head new.now) rounds).outcome) }
+    ensures work { IfOk result (λ s. s.work ≡ work U.answer program.now graph.now (arcs_in kernel.old.rows.by_head new.now) (Some (arcs_in kernel.old.rows.by_head old.now)) (number_of rounds)) }
 {
     graph.edge_count();
     let turned = turned(alloc, old, new)?;
     next_step(
-        alloc, program, graph, rows, history, old, new, &turned, rounds, updater,
+        alloc, program, graph, kernel, history, old, new, &turned, rounds, updater,
     )
 }
 
@@ -272,7 +274,7 @@ fn later_views<U: Updater>(
     alloc: Global,
     program: &Program,
     graph: &Graph,
-    rows: &mut Rows,
+    kernel: &mut Kernel,
     first: &[bool],
     history: History,
     values: &mut [Val],
@@ -281,12 +283,12 @@ fn later_views<U: Updater>(
     updater: &mut U,
 ) -> Result<Finding, NoMemory>
     requires checked { IsChecked program.now graph.now }
-    requires rows { AreRows graph.now rows.old }
-    requires along { AreAlong program.now.along graph.now rows.old }
+    requires kernel { IsKernel graph.now kernel.old }
+    requires along { AreAlong program.now.along graph.now kernel.old.rows }
     requires first { length first.now ≡ length graph.now.ends }
     requires some { 1 ≤ number_of rounds }
     requires limit { number_of rounds ≤ 1_000_000 }
-    requires history { IsHistory U.answer program.now graph.now (Some (arcs_in rows.old.by_head first.now)) (number_of rounds) history }
+    requires history { IsHistory U.answer program.now graph.now (Some (arcs_in kernel.old.rows.by_head first.now)) (number_of rounds) history }
 {
     let mut history = history;
     let mut old = first;
@@ -296,7 +298,7 @@ fn later_views<U: Updater>(
         }
         let new = view.edges;
         let stepped = later_step(
-            alloc, program, graph, rows, &history, old, new, rounds, updater,
+            alloc, program, graph, kernel, &history, old, new, rounds, updater,
         )?;
         let plain = later_plain(alloc, program, graph, old, new, rounds, updater)?;
         apply(values, stepped.change.as_slice());
@@ -329,9 +331,9 @@ pub(crate) fn segment<U: Updater>(
     if edges.len() != graph.edge_count() as usize {
         return Ok(Finding::OtherEdges);
     }
-    let mut rows = Rows::new(alloc, graph, program.along)?;
+    let mut kernel = Kernel::new(alloc, graph, program.along)?;
     let mut values = vec![in alloc; Val::Nil; graph.node_count() as usize]?;
-    let stepped = first_step(alloc, program, graph, &mut rows, edges, rounds, updater)?;
+    let stepped = first_step(alloc, program, graph, &mut kernel, edges, rounds, updater)?;
     let plain = first_plain(alloc, program, graph, edges, rounds, updater)?;
     apply(&mut values, stepped.change.as_slice());
     let found = compare(&stepped, &plain, &values, first);
@@ -342,7 +344,7 @@ pub(crate) fn segment<U: Updater>(
         alloc,
         program,
         graph,
-        &mut rows,
+        &mut kernel,
         edges,
         stepped.history,
         &mut values,

@@ -3,17 +3,18 @@
 ghost use Rattle.std.specs.Prelude.{◌≡◌, ◌<◌, ◌≤◌, [], length, All, IfOk, None};
 ghost use Rattle.vertex_lang.specs.Leaves.{IsChecked};
 ghost use Rattle.vertex_lang.specs.Lone.{number_of};
-ghost use Rattle.round_kernel.specs.RowLists.{AreRows};
-ghost use Rattle.round_kernel.specs.Steps.{AreOfAll};
+ghost use Rattle.round_kernel.specs.Kernels.{IsKernel};
+ghost use Rattle.arc_rows.specs.RowLists.{AreOfAll};
 ghost use Rattle.view_matrix.specs.Matrices.{IsView};
 ghost use Rattle.view_segment.specs.Segments.{SegmentStands};
 ghost use Rattle.view_segment.specs.Tasks.{task_over};
 
+use change_lists::Change;
 use edge_predicates::ViewRule;
 use graph_algos::hops;
 use graph_loader::load;
 use graph_model::{Graph, Val, ViewNo};
-use round_kernel::{Change, Rows};
+use round_kernel::Kernel;
 use std::alloc::{AllocError, Global};
 use std::marker::Brand;
 use std::sync::ledger::{Blank, Ledger};
@@ -89,22 +90,22 @@ fn step_all<U: Updater>(
     program: &Program,
     rounds: Rounds,
     matrix: &Matrix,
-    rows: &mut Rows,
+    kernel: &mut Kernel,
     segment: &mut Segment,
     updater: &mut U,
 ) -> Result<String, NoMemory>
     requires checked { IsChecked program.now graph.now }
     requires some { 1 ≤ number_of rounds }
     requires limit { number_of rounds ≤ 1_000_000 }
-    requires rows { AreRows graph.now rows.old }
-    requires along { AreOfAll program.now.along graph.now rows.old }
+    requires kernel { IsKernel graph.now kernel.old }
+    requires along { AreOfAll program.now.along graph.now kernel.old.rows }
     requires matrix { length matrix.now.live ≡ length graph.now.ends }
     requires views { All (IsView matrix.now) segment.old.views }
     requires stands { SegmentStands (task_over U.answer program.now graph.now rounds matrix.now) segment.old }
 {
     let mut text = String::new(alloc);
     while segment.works().len() < segment.views().len() {
-        let given = segment.step(alloc, graph, program, rounds, matrix, rows, updater)?;
+        let given = segment.step(alloc, graph, program, rounds, matrix, kernel, updater)?;
         text.push_str(given_text(alloc, &given)?.as_str())?;
     }
     Ok(text)
@@ -137,7 +138,7 @@ fn hops_in<L: Ledger>(
     let program = hops(alloc, 1)?;
     let live = all_live(alloc, graph)?;
     let matrix = Matrix::build(alloc, graph, &live, rules)?;
-    let mut rows = Rows::new(alloc, graph, program.along)?;
+    let mut kernel = Kernel::new(alloc, graph, program.along)?;
     let mut segment = whole(alloc, &matrix)?;
     let mut text = step_all(
         alloc,
@@ -145,7 +146,7 @@ fn hops_in<L: Ledger>(
         &program,
         rounds,
         &matrix,
-        &mut rows,
+        &mut kernel,
         &mut segment,
         &mut steps,
     )?;

@@ -5,18 +5,20 @@ ghost use Rattle.std.specs.Option.{IfSome};
 ghost use Rattle.vertex_lang.specs.Leaves.{IsChecked};
 ghost use Rattle.flow_core.specs.Runs.{IsFresh};
 ghost use Rattle.flow_rows.specs.Driven.{Drives};
-ghost use Rattle.round_kernel.specs.Sides.{arcs_in};
+ghost use Rattle.arc_rows.specs.Views.{arcs_in};
 ghost use Rattle.round_kernel.specs.Histories.{IsHistory};
-ghost use Rattle.round_kernel.specs.RowLists.{AreRows};
-ghost use Rattle.round_kernel.specs.Steps.{TellsAll, AreAlong};
+ghost use Rattle.round_kernel.specs.Kernels.{IsKernel};
+ghost use Rattle.arc_rows.specs.Views.{TellsAll};
+ghost use Rattle.arc_rows.specs.RowLists.{AreAlong};
 
 use crate::tests::plain::{Made, through};
 use crate::tests::views::{arcs_at, delta};
+use change_lists::{Change, History};
 use flow_core::Operator;
 use flow_rows::{take_seal, take_step};
 use graph_model::{EdgeNo, Graph, NodeNo, Val};
 use lattice_time::{Position, Time};
-use round_kernel::{Change, History, Rows, Stepped, first_step, next_step};
+use round_kernel::{Kernel, Stepped, first_step, next_step};
 use std::alloc::Global;
 use surge_outside::{List, NoMemory};
 use vertex_items::FlowInput;
@@ -81,7 +83,7 @@ fn next_by_kernel<U: Updater>(
     alloc: Global,
     program: &Program,
     graph: &Graph,
-    rows: &mut Rows,
+    kernel: &mut Kernel,
     history: &History,
     old: &[bool],
     new: &[bool],
@@ -89,25 +91,25 @@ fn next_by_kernel<U: Updater>(
     updater: &mut U,
 ) -> Result<Stepped, NoMemory>
     requires checked { IsChecked program.now graph.now }
-    requires rows { AreRows graph.now rows.old }
-    requires along { AreAlong program.now.along graph.now rows.old }
+    requires kernel { IsKernel graph.now kernel.old }
+    requires along { AreAlong program.now.along graph.now kernel.old.rows }
     requires old { length old.now ≡ length graph.now.ends }
     requires new { length new.now ≡ length graph.now.ends }
     requires some { 1 ≤ rounds }
     requires limit { rounds ≤ 1_000_000 }
     requires history { IsHistory U.answer program.now graph.now
-        (Some (arcs_in rows.old.by_head old.now)) rounds history.now }
-    ensures rows { OnOk result (AreRows graph.now rows.new) }
-    ensures arcs { rows.new.by_head ≡ rows.old.by_head }
+        (Some (arcs_in kernel.old.rows.by_head old.now)) rounds history.now }
+    ensures kernel { OnOk result (IsKernel graph.now kernel.new) }
+    ensures rows { kernel.new.rows ≡ kernel.old.rows }
     ensures history { IfOk result (λ s. IsHistory U.answer program.now graph.now
-        (Some (arcs_in rows.old.by_head new.now)) rounds s.history) }
+        (Some (arcs_in kernel.old.rows.by_head new.now)) rounds s.history) }
 {
     let edges = all_edges(alloc, graph)?;
     next_step(
         alloc,
         program,
         graph,
-        rows,
+        kernel,
         history,
         old,
         new,
@@ -148,7 +150,7 @@ fn later_view<U: Updater, O: Operator<Position, U, Input = FlowInput, Output = M
     t: Position,
     program: &Program,
     graph: &Graph,
-    rows: &mut Rows,
+    kernel: &mut Kernel,
     old: &Stood,
     rounds: u32,
     bits: u32,
@@ -156,24 +158,24 @@ fn later_view<U: Updater, O: Operator<Position, U, Input = FlowInput, Output = M
 ) -> Result<Option<Stood>, NoMemory>
     requires drives { Drives O.stands O.seal O.spent flow.old times.old seal }
     requires checked { IsChecked program.now graph.now }
-    requires rows { AreRows graph.now rows.old }
-    requires along { AreAlong program.now.along graph.now rows.old }
+    requires kernel { IsKernel graph.now kernel.old }
+    requires along { AreAlong program.now.along graph.now kernel.old.rows }
     requires some { 1 ≤ rounds }
     requires limit { rounds ≤ 1_000_000 }
     requires flags { length old.now.flags.items ≡ length graph.now.ends }
     requires history { IsHistory U.answer program.now graph.now
-        (Some (arcs_in rows.old.by_head old.now.flags.items)) rounds old.now.history }
-    ensures rows { OnOk result (AreRows graph.now rows.new) }
-    ensures arcs { rows.new.by_head ≡ rows.old.by_head }
+        (Some (arcs_in kernel.old.rows.by_head old.now.flags.items)) rounds old.now.history }
+    ensures kernel { OnOk result (IsKernel graph.now kernel.new) }
+    ensures rows { kernel.new.rows ≡ kernel.old.rows }
     ensures drives { OnOk result (Drives O.stands O.seal O.spent flow.new times.new seal) }
     ensures flags { IfOk result (λ r. IfSome r (λ s. length s.flags.items ≡ length graph.now.ends)) }
     ensures history { IfOk result (λ r. IfSome r (λ s. IsHistory U.answer program.now graph.now
-        (Some (arcs_in rows.old.by_head s.flags.items)) rounds s.history)) }
+        (Some (arcs_in kernel.old.rows.by_head s.flags.items)) rounds s.history)) }
 {
     let flags = flags(alloc, graph, bits)?;
     let history = &old.history;
     let stepped = next_by_kernel(
-        alloc, program, graph, rows, history, &old.flags, &flags, rounds, updater,
+        alloc, program, graph, kernel, history, &old.flags, &flags, rounds, updater,
     )?;
     let arcs = arcs_at(alloc, graph, program.along, bits)?;
     let fed = delta(alloc, graph, Some(old.arcs.as_slice()), arcs.as_slice())?;
@@ -197,7 +199,7 @@ fn later_views<U: Updater, O: Operator<Position, U, Input = FlowInput, Output = 
     seal: Position,
     program: &Program,
     graph: &Graph,
-    rows: &mut Rows,
+    kernel: &mut Kernel,
     first: Stood,
     rounds: u32,
     views: &[u32],
@@ -205,13 +207,13 @@ fn later_views<U: Updater, O: Operator<Position, U, Input = FlowInput, Output = 
 ) -> Result<Option<u64>, NoMemory>
     requires drives { Drives O.stands O.seal O.spent flow.old times.old seal }
     requires checked { IsChecked program.now graph.now }
-    requires rows { AreRows graph.now rows.old }
-    requires along { AreAlong program.now.along graph.now rows.old }
+    requires kernel { IsKernel graph.now kernel.old }
+    requires along { AreAlong program.now.along graph.now kernel.old.rows }
     requires some { 1 ≤ rounds }
     requires limit { rounds ≤ 1_000_000 }
     requires flags { length first.flags.items ≡ length graph.now.ends }
     requires history { IsHistory U.answer program.now graph.now
-        (Some (arcs_in rows.old.by_head first.flags.items)) rounds first.history }
+        (Some (arcs_in kernel.old.rows.by_head first.flags.items)) rounds first.history }
 {
     let mut seal = seal;
     let mut total = first.work;
@@ -220,7 +222,7 @@ fn later_views<U: Updater, O: Operator<Position, U, Input = FlowInput, Output = 
     for bits in views {
         let t = Position(place);
         let stood = later_view(
-            alloc, flow, times, seal, t, program, graph, rows, &old, rounds, *bits, updater,
+            alloc, flow, times, seal, t, program, graph, kernel, &old, rounds, *bits, updater,
         )?;
         let Some(new) = stood else {
             return Ok(None);
@@ -241,26 +243,26 @@ fn first_view<U: Updater, O: Operator<Position, U, Input = FlowInput, Output = M
     seal: Position,
     program: &Program,
     graph: &Graph,
-    rows: &mut Rows,
+    kernel: &mut Kernel,
     rounds: u32,
     bits: u32,
     updater: &mut U,
 ) -> Result<Option<Stood>, NoMemory>
     requires drives { Drives O.stands O.seal O.spent flow.old times.old seal }
     requires checked { IsChecked program.now graph.now }
-    requires rows { AreRows graph.now rows.old }
+    requires kernel { IsKernel graph.now kernel.old }
     requires some { 1 ≤ rounds }
     requires limit { rounds ≤ 1_000_000 }
-    ensures rows { OnOk result (AreRows graph.now rows.new) }
-    ensures arcs { rows.new.by_head ≡ rows.old.by_head }
+    ensures kernel { OnOk result (IsKernel graph.now kernel.new) }
+    ensures rows { kernel.new.rows ≡ kernel.old.rows }
     ensures drives { OnOk result (Drives O.stands O.seal O.spent flow.new times.new seal) }
     ensures flags { IfOk result (λ r. IfSome r (λ s. length s.flags.items ≡ length graph.now.ends)) }
     ensures history { IfOk result (λ r. IfSome r (λ s. IsHistory U.answer program.now graph.now
-        (Some (arcs_in rows.old.by_head s.flags.items)) rounds s.history)) }
+        (Some (arcs_in kernel.old.rows.by_head s.flags.items)) rounds s.history)) }
 {
     let flags = flags(alloc, graph, bits)?;
     let limit = Rounds::Within(rounds);
-    let stepped = first_step(alloc, program, graph, rows, &flags, limit, updater)?;
+    let stepped = first_step(alloc, program, graph, kernel, &flags, limit, updater)?;
     let arcs = arcs_at(alloc, graph, program.along, bits)?;
     let fed = delta(alloc, graph, None, arcs.as_slice())?;
     let t = Position(1);
@@ -293,17 +295,36 @@ pub(crate) fn side_by_side<U: Updater, O: Operator<Position, U, Input = FlowInpu
     requires some { 1 ≤ rounds }
     requires limit { rounds ≤ 1_000_000 }
 {
-    let mut rows = Rows::new(alloc, graph, program.along)?;
+    let mut kernel = Kernel::new(alloc, graph, program.along)?;
     let mut times = List::new(alloc);
     let least = Position::least();
     let stood = first_view(
-        alloc, flow, &mut times, least, program, graph, &mut rows, rounds, first, updater,
+        alloc,
+        flow,
+        &mut times,
+        least,
+        program,
+        graph,
+        &mut kernel,
+        rounds,
+        first,
+        updater,
     )?;
     let Some(stood) = stood else {
         return Ok(None);
     };
     let seal = take_seal(flow, &times, least, Position(1))?;
     later_views(
-        alloc, flow, &mut times, seal, program, graph, &mut rows, stood, rounds, later, updater,
+        alloc,
+        flow,
+        &mut times,
+        seal,
+        program,
+        graph,
+        &mut kernel,
+        stood,
+        rounds,
+        later,
+        updater,
     )
 }

@@ -3,7 +3,7 @@ use Rattle.std.specs.Prelude.{All}
 use Rattle.std.proofs.lemmas.List.{length-append}
 use Rattle.std.proofs.lemmas.List.Elements.{All-push}
 use Rattle.graph_model.specs.declared.number.EdgeNo.{EdgeNo}
-use Rattle.round_kernel.specs.RowLists.{edge}
+use Rattle.arc_rows.specs.RowLists.{edge}
 use Rattle.kernel_rows.proofs.Small.{TellsBefore, not-other, tells-pushed, tells-equal}
 use Rattle.kernel_rows.proofs.tests.segment.turned.Goals as goal
 use Rattle.kernel_rows.proofs.tests.segment.turned.Goals.{then-old-edge+in_ok-push, else-old-edge}

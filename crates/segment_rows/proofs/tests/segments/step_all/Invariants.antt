@@ -1,7 +1,7 @@
 use Rattle.std.proofs.Common.{◌-◌, length}
 use Rattle.std.specs.Prelude.{All}
-use Rattle.round_kernel.specs.RowLists.{AreRows}
-use Rattle.round_kernel.specs.Steps.{AreOfAll}
+use Rattle.round_kernel.specs.Kernels.{IsKernel}
+use Rattle.arc_rows.specs.RowLists.{AreOfAll}
 use Rattle.view_matrix.specs.Matrices.{IsView}
 use Rattle.view_segment.specs.Segments.{SegmentStands}
 use Rattle.view_segment.specs.Tasks.{task_over}
@@ -9,8 +9,8 @@ use Rattle.segment_rows.proofs.tests.segments.step_all.Given as goal
 
 abbrev pub invariant-loop-alloc : goal.invariant-loop-alloc
 invariant-loop-alloc g l = record {
-  rows : AreRows l.graph l.rows;
-  along : AreOfAll l.program.along l.graph l.rows;
+  kernel : IsKernel l.graph l.kernel;
+  along : AreOfAll l.program.along l.graph l.kernel.rows;
   views : All (IsView l.matrix) l.segment.views;
   stands : SegmentStands (task_over g.U.Updater.answer l.program l.graph l.rounds l.matrix) l.segment;
 }

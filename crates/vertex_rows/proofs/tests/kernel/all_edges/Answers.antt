@@ -3,7 +3,7 @@ use Rattle.std.proofs.Common.{◌<◌, ◌+◌, List, length, subst, sym}
 use Rattle.std.specs.Prelude.{All}
 use Rattle.std.proofs.lemmas.List.Elements.{All-push}
 use Rattle.graph_model.specs.declared.number.EdgeNo.{EdgeNo}
-use Rattle.round_kernel.specs.RowLists.{edge}
+use Rattle.arc_rows.specs.RowLists.{edge}
 use Rattle.vertex_rows.proofs.Small.{AllBefore, all-pushed}
 use Rattle.vertex_rows.proofs.tests.kernel.all_edges.Goals as goal
 

@@ -1,17 +1,17 @@
 use Rattle.std.proofs.Common.{◌≡◌, length}
 use Rattle.std.specs.Prelude.{Some}
 use Rattle.flow_rows.specs.Driven.{Drives}
-use Rattle.round_kernel.specs.Sides.{arcs_in}
+use Rattle.arc_rows.specs.Views.{arcs_in}
 use Rattle.round_kernel.specs.Histories.{IsHistory}
-use Rattle.round_kernel.specs.RowLists.{AreRows}
+use Rattle.round_kernel.specs.Kernels.{IsKernel}
 use Rattle.vertex_rows.proofs.tests.kernel.later_views.Given as goal
 
 abbrev pub invariant-loop-bits : goal.invariant-loop-bits
 invariant-loop-bits g l = record {
-  rows : AreRows l.graph l.rows;
-  arcs : l.rows.by_head ≡ l.initial.rows.by_head;
+  kernel : IsKernel l.graph l.kernel;
+  rows : l.kernel.rows ≡ l.initial.kernel.rows;
   drives : Drives g.O.Operator.stands g.O.Operator.seal g.O.Operator.spent l.flow l.times l.seal;
   flags : length l.old.flags.items ≡ length l.graph.ends;
   history : IsHistory g.U.Updater.answer l.program l.graph
-      (Some (arcs_in l.initial.rows.by_head l.old.flags.items)) l.rounds l.old.history;
+      (Some (arcs_in l.initial.kernel.rows.by_head l.old.flags.items)) l.rounds l.old.history;
 }
