@@ -3,7 +3,7 @@
 # windows, and measures the peak memory of both. Run it from the repository's top: sh bench/vertex_flow/run.sh
 set -eu
 top=$(cd "$(dirname "$0")/../.." && pwd)
-program=$(sh "$top/bench/build.sh" vertex_flow 'surge_outside graph_model multisets graph_loader vertex_lang lone_work round_kernel graph_algos lattice_time weighted chunk_list trace_store flow_core ordered_pairs diff_join reduce_theory diff_reduce loop_theory diff_iterate inner_theory keyed_loop work_theory vertex_items view_items vertex_update vertex_parts flow_work vertex_flow flow_rows' 'csv indexmap anyhow')
+program=$(sh "$top/bench/build.sh" vertex_flow 'surge_outside graph_model multisets graph_loader vertex_lang lone_work message_forms change_lists value_codes arc_rows round_messages round_inputs waiting_nodes round_kernel graph_algos lattice_time weighted chunk_list trace_store flow_core ordered_pairs diff_join reduce_theory diff_reduce loop_theory diff_iterate inner_theory keyed_loop work_theory vertex_items view_items vertex_update vertex_parts flow_work vertex_flow flow_rows' 'csv indexmap anyhow')
 python3 - "$program" "${BENCH_ROUNDS:-5}" <<'PYTHON'
 import subprocess, sys
 
