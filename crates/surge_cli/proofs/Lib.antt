@@ -9,3 +9,5 @@ pub mod Saying
 pub mod Expecting
 pub mod Endings
 pub mod Deciding
+pub mod Completing
+pub mod ReadingOnce

@@ -45,13 +45,17 @@ pub record PrintsFront (answer : Answer) (held : Option Held) (words : List (Lis
   pub due : IsDue held words job
   pub printed : GrewByFront old new (output answer job)
 
+-- nothing was written, and the updater was not called
+abbrev pub IsIdle : (old new : Written) → (calls calls_after : ℕ) → Type 0
+IsIdle old new calls calls_after = (new ≡ old) × (calls_after ≡ calls)
+
 -- what a status means, where this is told of the files
 abbrev pub Means : Answer → Option Held → List (List ℕ) → Status → (old new : Written) → (calls calls_after : ℕ) → Type 0
 Means answer held words status.Done old new a b = Prints answer held words old new a b
-Means answer held words status.Usage old new a b = IsRefusal held words status.Usage × (new ≡ old)
-Means answer held words (status.Absent role) old new a b = IsRefusal held words (status.Absent role) × (new ≡ old)
-Means answer held words (status.Data fault) old new a b = IsRefusal held words (status.Data fault) × (new ≡ old)
-Means answer held words (status.Script fault) old new a b = IsRefusal held words (status.Script fault) × (new ≡ old)
-Means answer held words status.ReadFault old new a b = new ≡ old
+Means answer held words status.Usage old new a b = IsRefusal held words status.Usage × IsIdle old new a b
+Means answer held words (status.Absent role) old new a b = IsRefusal held words (status.Absent role) × IsIdle old new a b
+Means answer held words (status.Data fault) old new a b = IsRefusal held words (status.Data fault) × IsIdle old new a b
+Means answer held words (status.Script fault) old new a b = IsRefusal held words (status.Script fault) × IsIdle old new a b
+Means answer held words status.ReadFault old new a b = IsIdle old new a b
 Means answer held words status.WriteFault old new a b = PrintsFront answer held words old new
-Means answer held words status.NoMemory old new a b = (new ≡ old) ⊎ PrintsFront answer held words old new
+Means answer held words status.NoMemory old new a b = IsIdle old new a b ⊎ PrintsFront answer held words old new

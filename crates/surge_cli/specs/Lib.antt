@@ -8,4 +8,6 @@ pub mod Expected
 pub mod Headline
 pub mod Reaches
 pub mod Causes
+pub mod Completing
+pub mod Once
 pub mod Stages

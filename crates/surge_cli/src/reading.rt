@@ -1,8 +1,8 @@
 //! Whole files, up to a limit.
 
-ghost use Rattle.std.specs.Prelude.{◌≡◌, ◌<◌, ◌≤◌, ◌^◌, length, IfOk, IfErr, vec_len};
+ghost use Rattle.std.specs.Prelude.{◌≡◌, ◌<◌, ◌≤◌, ◌^◌, [], ◌∷◌, length, IfOk, IfErr, vec_len};
 ghost use Rattle.surge_outside.specs.Counts.{HasRisen};
-ghost use Rattle.surge_cli.specs.FilesState.{GoesOn, AsksNoOther};
+ghost use Rattle.surge_cli.specs.FilesState.{GoesOn, AsksNoOther, AsksEach, AsksAt};
 ghost use Rattle.surge_cli.specs.Reading.{IsToldFront};
 ghost use Rattle.surge_cli.specs.ReadingAnswer.{Reads, Takes};
 
@@ -53,6 +53,7 @@ fn take_piece<F: NamedFiles>(
     ensures grows { result ≡ Ok Taken.More → vec_len bytes.old < vec_len bytes.new }
     ensures files { GoesOn (F.state files.old) (F.state files.new) }
     ensures asked { AsksNoOther name.now (F.state files.old) (F.state files.new) }
+    ensures once { AsksAt name.now (vec_len bytes.old) (F.state files.old) (F.state files.new) }
     ensures absent { result ≡ Ok Taken.Absent → HasRisen ((F.state files.old).absences name.now) ((F.state files.new).absences name.now) }
     ensures failed { result ≡ Err Trouble.Failed → HasRisen ((F.state files.old).faults name.now) ((F.state files.new).faults name.now) }
 {
@@ -83,6 +84,7 @@ pub(crate) fn read_file<F: NamedFiles>(
     ensures answer { IfOk result (λ r. Reads (F.state files.old).held name.now limit r) }
     ensures files { GoesOn (F.state files.old) (F.state files.new) }
     ensures asked { AsksNoOther name.now (F.state files.old) (F.state files.new) }
+    ensures once { AsksEach (name.now ∷ []) (F.state files.old) (F.state files.new) }
     ensures absent { result ≡ Ok Reading.Absent → HasRisen ((F.state files.old).absences name.now) ((F.state files.new).absences name.now) }
     ensures failed { result ≡ Err Trouble.Failed → HasRisen ((F.state files.old).faults name.now) ((F.state files.new).faults name.now) }
 {

@@ -8,7 +8,9 @@ ghost use Rattle.surge_cli.specs.Words.{command_line};
 ghost use Rattle.surge_cli.specs.Expected.{Expectation, Expects, told};
 ghost use Rattle.surge_cli.specs.Headline.{Means};
 ghost use Rattle.surge_cli.specs.Reaches.{Reaches};
+ghost use Rattle.surge_cli.specs.Once.{ReadsOnce};
 ghost use Rattle.surge_cli.specs.Causes.{OfWords, NamesNone, counts, AsksOnly, Causes, AgreesWith, Reports};
+ghost use Rattle.surge_cli.specs.Completing.{NothingFailed, Completes};
 
 use crate::named_files::NamedFiles;
 use crate::session::do_job;
@@ -32,6 +34,7 @@ fn run<F: NamedFiles, O: Sink, U: Updater>(
     ensures unread { NamesNone (command_line (map string_bytes words.now)) → files.new ≡ files.old }
     ensures causes { Causes (Reaches (F.state files.old).held (map string_bytes words.now)) result (counts (F.state files.old) (O.faults out.old)) (counts (F.state files.new) (O.faults out.new)) }
     ensures asked { AsksOnly (Reaches (F.state files.old).held (map string_bytes words.now)) (F.state files.old).asked (F.state files.new).asked }
+    ensures once { ReadsOnce (F.state files.old).held (map string_bytes words.now) (F.state files.old) (F.state files.new) }
 {
     match prepare(alloc, files, words) {
         Ok(job) => match do_job(alloc, &job, out, updater) {
@@ -106,6 +109,10 @@ pub fn surge<F: NamedFiles, O: Sink, E: Sink, U: Updater>(
     // What is expected of the files is the status, unless it came from the outside.
     ensures exact { IfSome (told (F.state files.old).held (map string_bytes words.now)) (λ held. (e : Expectation) → Expects held (map string_bytes words.now) e → AgreesWith result e) }
 
+    // Where the words, the files and the script are accepted and no failure was counted, the whole output is written, or memory
+    // was wanting.
+    ensures complete { NothingFailed (counts (F.state files.old) (O.faults out.old)) (counts (F.state files.new) (O.faults out.new)) → Completes U.answer (F.state files.old).held (map string_bytes words.now) result (O.written out.old) (O.written out.new) }
+
     // Words that are not of the form are answered Usage and no others are, whatever the files do, but for want of memory.
     ensures words { OfWords (command_line (map string_bytes words.now)) result }
 
@@ -119,6 +126,9 @@ pub fn surge<F: NamedFiles, O: Sink, E: Sink, U: Updater>(
     // Of a name that no file has which was reached, nothing is asked: not the data where the script is absent or refused, nor
     // the edges where the nodes are absent or too large.
     ensures asked { AsksOnly (Reaches (F.state files.old).held (map string_bytes words.now)) (F.state files.old).asked (F.state files.new).asked }
+
+    // A file is read once for each place in which it is named: no place of it is asked for again.
+    ensures once { ReadsOnce (F.state files.old).held (map string_bytes words.now) (F.state files.old) (F.state files.new) }
 
     // One line on standard error, and none where the run is done.
     ensures line { Reports result (E.written err.old) (E.written err.new) (E.faults err.old) (E.faults err.new) }

@@ -1,17 +1,18 @@
 //! From the words to a job, stage by stage.
 
-ghost use Rattle.std.specs.Prelude.{◌≡◌, ◌<◌, ◌^◌, map, string_bytes, length, IfOk, IfErr};
+ghost use Rattle.std.specs.Prelude.{◌≡◌, ◌<◌, ◌^◌, [], ◌∷◌, map, string_bytes, length, IfOk, IfErr};
 ghost use Rattle.graph_loader.specs.DataFiles.{graph_of};
 ghost use Rattle.gvdl_check.specs.Fits.{PlanFits};
 ghost use Rattle.gvdl_check.specs.Plans.{plan};
 ghost use Rattle.gvdl_check.specs.Written.{IsWritten};
 ghost use Rattle.sample_data.specs.Sample.{script_text};
-ghost use Rattle.surge_cli.specs.FilesState.{GoesOn, AsksNoOther};
+ghost use Rattle.surge_cli.specs.FilesState.{GoesOn, AsksNoOther, AsksEach};
 ghost use Rattle.surge_cli.specs.Words.{command_line};
 ghost use Rattle.surge_cli.specs.Expected.{limit_of, too_large, large_of, fetched, loaded, planned, graph_with, graph_for, job_over, job_for, sample_graph, job_sampled, ExpectsOfText, ExpectsOfFile, ExpectsAsked, Expects, told_of, told};
 ghost use Rattle.surge_cli.specs.Headline.{AsksFor};
 ghost use Rattle.surge_cli.specs.Reaches.{IsTheScript, HasScript, ReachesData, ReachesNamed, ReachesAsked, Reaches};
 ghost use Rattle.surge_cli.specs.Causes.{OfWords, NamesNoFile, NamesNone, AsksOnly};
+ghost use Rattle.surge_cli.specs.Once.{IsRead, IsReadOf, AsksOnce, ReadsOnce};
 ghost use Rattle.surge_cli.specs.Stages.{IsStop, IsStage, IsInner, IsFile, RisesBefore, IsSaid, IsSaidOf, IsExpected, IsExpectedOf, StopsWords, StopsParse, StopsScript};
 
 use crate::job::Job;
@@ -76,6 +77,7 @@ fn fetch<F: NamedFiles>(
     ensures files { GoesOn (F.state files.old) (F.state files.new) }
     ensures causes { IfErr result (λ s. RisesBefore (IsFile role name.now) s (F.state files.old) (F.state files.new)) }
     ensures asked { AsksNoOther name.now (F.state files.old) (F.state files.new) }
+    ensures once { AsksEach (name.now ∷ []) (F.state files.old) (F.state files.new) }
 {
     match read_file(alloc, files, name, limit_of(role)) {
         Ok(Reading::Bytes(bytes)) => Ok(List::from_vec(bytes)),
@@ -136,6 +138,7 @@ fn load_edges<F: NamedFiles>(
     ensures files { GoesOn (F.state files.old) (F.state files.new) }
     ensures causes { IfErr result (λ s. RisesBefore (IsFile FileRole.Edges script.now.edges) s (F.state files.old) (F.state files.new)) }
     ensures asked { AsksNoOther script.now.edges (F.state files.old) (F.state files.new) }
+    ensures once { AsksEach (script.now.edges ∷ []) (F.state files.old) (F.state files.new) }
 {
     match fetch(alloc, files, FileRole::Edges, script.edges.as_str()) {
         Ok(edges) => load_graph(alloc, nodes, edges.as_slice()),
@@ -150,6 +153,7 @@ fn load_data<F: NamedFiles>(alloc: Global, files: &mut F, script: &Script) -> Re
     ensures files { GoesOn (F.state files.old) (F.state files.new) }
     ensures causes { IfErr result (λ s. RisesBefore (ReachesData (F.state files.old).held script.now) s (F.state files.old) (F.state files.new)) }
     ensures asked { AsksOnly (ReachesData (F.state files.old).held script.now) (F.state files.old).asked (F.state files.new).asked }
+    ensures once { AsksEach (script.now.nodes ∷ script.now.edges ∷ []) (F.state files.old) (F.state files.new) }
 {
     match fetch(alloc, files, FileRole::Nodes, script.nodes.as_str()) {
         Ok(nodes) => load_edges(alloc, files, script, nodes.as_slice()),
@@ -191,6 +195,7 @@ fn job_for<F: NamedFiles>(
     ensures files { GoesOn (F.state files.old) (F.state files.new) }
     ensures causes { IfErr result (λ s. RisesBefore (ReachesData (F.state files.old).held script) s (F.state files.old) (F.state files.new)) }
     ensures asked { AsksOnly (ReachesData (F.state files.old).held script) (F.state files.old).asked (F.state files.new).asked }
+    ensures once { AsksEach (script.nodes ∷ script.edges ∷ []) (F.state files.old) (F.state files.new) }
 {
     match load_data(alloc, files, &script) {
         Ok(graph) => job_over(alloc, task, script, graph),
@@ -207,6 +212,7 @@ fn fetch_script<F: NamedFiles>(alloc: Global, files: &mut F, name: &str) -> Resu
     ensures files { GoesOn (F.state files.old) (F.state files.new) }
     ensures causes { IfErr result (λ s. RisesBefore (IsFile FileRole.Script name.now) s (F.state files.old) (F.state files.new)) }
     ensures asked { AsksNoOther name.now (F.state files.old) (F.state files.new) }
+    ensures once { AsksEach (name.now ∷ []) (F.state files.old) (F.state files.new) }
 {
     match fetch(alloc, files, FileRole::Script, name) {
         Ok(text) => parse_script(alloc, text.as_slice()),
@@ -228,6 +234,7 @@ fn job_named<F: NamedFiles>(
     ensures files { GoesOn (F.state files.old) (F.state files.new) }
     ensures causes { IfErr result (λ s. RisesBefore (ReachesNamed (F.state files.old).held name.now) s (F.state files.old) (F.state files.new)) }
     ensures asked { AsksOnly (ReachesNamed (F.state files.old).held name.now) (F.state files.old).asked (F.state files.new).asked }
+    ensures once { AsksOnce (IsRead (F.state files.old).held name.now) (F.state files.old) (F.state files.new) }
 {
     match fetch_script(alloc, files, name) {
         Ok(script) => job_for(alloc, files, task, script),
@@ -298,6 +305,7 @@ fn job_asked<F: NamedFiles>(alloc: Global, files: &mut F, asked: &Asked) -> Resu
     ensures unread { NamesNoFile asked.now.source → files.new ≡ files.old }
     ensures causes { IfErr result (λ s. RisesBefore (ReachesAsked (F.state files.old).held asked.now) s (F.state files.old) (F.state files.new)) }
     ensures asked { AsksOnly (ReachesAsked (F.state files.old).held asked.now) (F.state files.old).asked (F.state files.new).asked }
+    ensures once { AsksOnce (IsReadOf (F.state files.old).held asked.now.source) (F.state files.old) (F.state files.new) }
 {
     match &asked.source {
         Source::Script(name) => job_named(alloc, files, name.as_str(), asked.task),
@@ -331,6 +339,7 @@ pub(crate) fn prepare<F: NamedFiles>(
     ensures unread { NamesNone (command_line (map string_bytes words.now)) → files.new ≡ files.old }
     ensures causes { IfErr result (λ s. RisesBefore (Reaches (F.state files.old).held (map string_bytes words.now)) s (F.state files.old) (F.state files.new)) }
     ensures asked { AsksOnly (Reaches (F.state files.old).held (map string_bytes words.now)) (F.state files.old).asked (F.state files.new).asked }
+    ensures once { ReadsOnce (F.state files.old).held (map string_bytes words.now) (F.state files.old) (F.state files.new) }
 {
     match read_asked(alloc, words) {
         Ok(asked) => job_asked(alloc, files, &asked),

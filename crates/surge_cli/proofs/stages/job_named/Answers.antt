@@ -10,6 +10,7 @@ use Rattle.surge_cli.specs.Causes.{AsksOnly, UpTo}
 use Rattle.surge_cli.proofs.GoingOn.{same_files, both_on}
 use Rattle.surge_cli.proofs.Reaching.{asks_both, asks_so, asks_file, script_first, none_before, at_file, data_named, rises_so, stage_rises}
 use Rattle.surge_cli.proofs.Expecting.{named_goes_on, named_stops}
+use Rattle.surge_cli.proofs.ReadingOnce.{script_and_data, script_alone}
 use Rattle.surge_cli.proofs.stages.job_named.Goals as goal
 
 pub returns-in-Ok-clause-said : goal.returns-in-Ok-clause-said
@@ -60,3 +61,13 @@ returns-in-Err-clause-asked g c =
     let old = g.F.NamedFiles.state c.args.files.now in
     let name = c.args.name.now in
     asks_file (ReachesNamed old.held name) role.Script name refl old (g.F.NamedFiles.state c.fetch_script.new.files) c.fetch_script.ensures.asked
+
+pub returns-in-Ok-clause-once : goal.returns-in-Ok-clause-once
+returns-in-Ok-clause-once g c =
+    let old = g.F.NamedFiles.state c.args.files.now in
+    script_and_data old.held c.args.name.now c.in-Ok.script old (g.F.NamedFiles.state c.fetch_script.new.files) (g.F.NamedFiles.state c.job_for.new.files) c.in-Ok.ensures.ok c.fetch_script.ensures.once c.job_for.ensures.once
+
+pub returns-in-Err-clause-once : goal.returns-in-Err-clause-once
+returns-in-Err-clause-once g c =
+    let old = g.F.NamedFiles.state c.args.files.now in
+    script_alone old.held c.args.name.now old (g.F.NamedFiles.state c.fetch_script.new.files) c.fetch_script.ensures.once

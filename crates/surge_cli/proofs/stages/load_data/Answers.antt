@@ -1,8 +1,8 @@
 -- The nodes are read, and then the edges.
-use Rattle.std.proofs.Common.{List, ℕ, Option, Ok, Err, refl, sym, subst}
+use Rattle.std.proofs.Common.{List, ℕ, [], ◌∷◌, Option, Ok, Err, refl, sym, subst}
 use Rattle.surge_cli.specs.declared.status.FileRole.TheVariants as role
 use Rattle.surge_cli.specs.declared.status.FileRole.{FileRole}
-use Rattle.surge_cli.specs.FilesState.{AsksNoOther}
+use Rattle.surge_cli.specs.FilesState.{AsksNoOther, AsksEach}
 use Rattle.surge_cli.specs.Causes.{AsksOnly, IsUpTo, UpTo}
 use Rattle.surge_cli.specs.Expected.{Held, fetched, graph_with}
 use Rattle.surge_cli.specs.Reaches.{IsFetched, ReachesData}
@@ -10,6 +10,7 @@ use Rattle.surge_cli.specs.Stages.{IsFile, RisesBefore, IsSaidOf}
 use Rattle.surge_cli.proofs.GoingOn.{same_files, both_on}
 use Rattle.surge_cli.proofs.Reaching.{asks_both, asks_file, none_before, at_file, rises_so, stage_rises}
 use Rattle.surge_cli.proofs.Saying.{goes_on, stops}
+use Rattle.surge_cli.proofs.ReadingOnce.{each_then, each_first}
 use Rattle.surge_cli.proofs.stages.load_data.Goals as goal
 
 pub returns-in-Ok-clause-said : goal.returns-in-Ok-clause-said
@@ -69,3 +70,18 @@ returns-in-Err-clause-asked g c =
     let new = g.F.NamedFiles.state c.fetch.new.files in
     let script = c.args.script.now in
     asks_file (ReachesData old.held script) role.Nodes script.nodes refl old new (subst (λ (name : List ℕ). AsksNoOther name old new) c.as_str.ensures c.fetch.ensures.asked)
+
+pub returns-in-Ok-clause-once : goal.returns-in-Ok-clause-once
+returns-in-Ok-clause-once g c =
+    let old = g.F.NamedFiles.state c.args.files.now in
+    let between = g.F.NamedFiles.state c.fetch.new.files in
+    let script = c.args.script.now in
+    each_then script.nodes (script.edges ∷ []) old between (g.F.NamedFiles.state c.load_edges.new.files)
+    (subst (λ (name : List ℕ). AsksEach (name ∷ []) old between) c.as_str.ensures c.fetch.ensures.once) c.load_edges.ensures.once
+
+pub returns-in-Err-clause-once : goal.returns-in-Err-clause-once
+returns-in-Err-clause-once g c =
+    let old = g.F.NamedFiles.state c.args.files.now in
+    let new = g.F.NamedFiles.state c.fetch.new.files in
+    let script = c.args.script.now in
+    each_first script.nodes (script.edges ∷ []) old new (subst (λ (name : List ℕ). AsksEach (name ∷ []) old new) c.as_str.ensures c.fetch.ensures.once)

@@ -1,9 +1,9 @@
 -- The edges are read, and then both files.
-use Rattle.std.proofs.Common.{List, ℕ, Ok, Err, subst}
+use Rattle.std.proofs.Common.{List, ℕ, [], ◌∷◌, Ok, Err, subst}
 use Rattle.graph_loader.specs.DataFiles.{graph_of}
 use Rattle.surge_cli.specs.declared.status.FileRole.TheVariants as role
 use Rattle.surge_cli.specs.Expected.{fetched, loaded}
-use Rattle.surge_cli.specs.FilesState.{AsksNoOther}
+use Rattle.surge_cli.specs.FilesState.{AsksNoOther, AsksEach}
 use Rattle.surge_cli.specs.Stages.{IsFile, RisesBefore, IsSaid, IsSaidOf}
 use Rattle.surge_cli.proofs.Endings.{inner_stages}
 use Rattle.surge_cli.proofs.Reaching.{inner_counts}
@@ -39,3 +39,9 @@ returns-in-Ok-clause-asked g c = subst (λ (name : List ℕ). AsksNoOther name (
 
 pub returns-in-Err-clause-asked : goal.returns-in-Err-clause-asked
 returns-in-Err-clause-asked g c = subst (λ (name : List ℕ). AsksNoOther name (g.F.NamedFiles.state c.args.files.now) (g.F.NamedFiles.state c.fetch.new.files)) c.as_str.ensures c.fetch.ensures.asked
+
+pub returns-in-Ok-clause-once : goal.returns-in-Ok-clause-once
+returns-in-Ok-clause-once g c = subst (λ (name : List ℕ). AsksEach (name ∷ []) (g.F.NamedFiles.state c.args.files.now) (g.F.NamedFiles.state c.fetch.new.files)) c.as_str.ensures c.fetch.ensures.once
+
+pub returns-in-Err-clause-once : goal.returns-in-Err-clause-once
+returns-in-Err-clause-once g c = subst (λ (name : List ℕ). AsksEach (name ∷ []) (g.F.NamedFiles.state c.args.files.now) (g.F.NamedFiles.state c.fetch.new.files)) c.as_str.ensures c.fetch.ensures.once

@@ -1,7 +1,8 @@
 -- What is expected of what the words ask for is expected of the words.
-use Rattle.std.proofs.Common.{◌≡◌, ℕ, List, Result, Ok, Err, map, string_bytes, refl}
+use Rattle.std.proofs.Common.{◌≡◌, ℕ, List, Result, Ok, Err, map, string_bytes, refl, sym, subst}
 use Rattle.std.specs.Prelude.{IfErr, IfOk}
 use Rattle.surge_cli.specs.declared.words.Asked.{Asked}
+use Rattle.surge_cli.specs.declared.words.CommandLine.{CommandLine}
 use Rattle.surge_cli.specs.declared.words.CommandLine.TheVariants as line
 use Rattle.surge_cli.specs.declared.status.Status.{Status}
 use Rattle.surge_cli.specs.declared.job.Job.{Job}
@@ -10,11 +11,13 @@ use Rattle.surge_cli.specs.Expected.{told}
 use Rattle.surge_cli.specs.Headline.{AsksFor}
 use Rattle.surge_cli.specs.Reaches.{ReachesAsked, Reaches}
 use Rattle.surge_cli.specs.Causes.{OfWords}
+use Rattle.surge_cli.specs.Once.{IsReadFor, AsksOnce}
 use Rattle.surge_cli.specs.Stages.{IsStop, IsStage}
 use Rattle.surge_cli.proofs.GoingOn.{same_files}
 use Rattle.surge_cli.proofs.Expecting.{words_go_on, words_stop}
 use Rattle.surge_cli.proofs.Reaching.{asks_so, none_before, words_rise, stage_rises}
 use Rattle.surge_cli.proofs.Endings.{asks_for, named_none, stage_words, stage_stops, words_stops, words_told}
+use Rattle.surge_cli.proofs.ReadingOnce.{nothing_read}
 use Rattle.surge_cli.proofs.stages.prepare.Goals as goal
 
 of_stage : (r : Result Job Status) (words : List (List ℕ)) (asked : Asked) → command_line words ≡ line.Asked asked → IfErr r IsStage → IfErr r (OfWords (command_line words))
@@ -72,3 +75,14 @@ returns-in-Ok-clause-asked g c =
     let new = g.F.NamedFiles.state c.job_asked.new.files in
     let words = map string_bytes c.args.words.now in
     asks_so (ReachesAsked old.held c.in-Ok.asked) (Reaches old.held words) old.asked new.asked (λ r n h. (c.in-Ok.asked, c.in-Ok.ensures.ok, h)) c.job_asked.ensures.asked
+
+pub returns-in-Ok-clause-once : goal.returns-in-Ok-clause-once
+returns-in-Ok-clause-once g c =
+    let old = g.F.NamedFiles.state c.args.files.now in
+    let new = g.F.NamedFiles.state c.job_asked.new.files in
+    subst (λ (words : CommandLine). AsksOnce (IsReadFor old.held words) old new) (sym c.in-Ok.ensures.ok) c.job_asked.ensures.once
+
+pub returns-in-Err-clause-once : goal.returns-in-Err-clause-once
+returns-in-Err-clause-once g c =
+    let old = g.F.NamedFiles.state c.args.files.now in
+    nothing_read old.held (command_line (map string_bytes c.args.words.now)) old
