@@ -12,3 +12,8 @@ next_or_same (Moving x) = (x + 1) % 2 ^ 32
 abbrev pub next_up_to_five : LoopInput ℕ ℕ → ℕ
 next_up_to_five (Fixed x) = x
 next_up_to_five (Moving x) = min ((x + 1) % 2 ^ 32) 5
+
+-- a moving record under the next key, and a fixed one as it is
+abbrev pub next_pair : LoopInput (ℕ × ℕ) (ℕ × ℕ) → ℕ × ℕ
+next_pair (Fixed p) = p
+next_pair (Moving p) = ((p.0 + 1) % 2 ^ 32, p.1)

@@ -6,6 +6,7 @@ mod lists;
 mod loops;
 mod operators;
 mod reduces;
+mod refusals;
 mod spans;
 mod steps;
 mod traces;

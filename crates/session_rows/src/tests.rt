@@ -26,6 +26,10 @@ const SCRIPT: &str =
 const TABLES: &str =
     "view C.a hops(1) settled 2\n1,0\n2,1\n3,2\n4,-\nend\nview C.b hops(1) settled 1\n1,0\n2,1\n3,1\n4,-\nend\nview C.c hops(1) settled 2\n1,0\n2,-\n3,1\n4,2\nend\n";
 
+// Four statements behind the load, which write five texts.
+const SHOWN: &str =
+    "load graph G nodes 'n' edges 'e'; create view collection C on G [a: y <= 1], [b: y <= 2], [c: y = 2 or y = 3]; run hops(1) on C within 3 rounds split auto keep as K; show work K; show order C;";
+
 // The graph in these files. Nothing is said of it, so that no proof reads its files.
 fn graph_in(alloc: Global, nodes: &[u8], edges: &[u8]) -> Result<Graph, Fail> {
     let graph = load(alloc, nodes, edges)?;
@@ -60,20 +64,21 @@ fn answer<O: Sink, U: Updater>(
     }
 }
 
-// What five calls of a session answer, and how many statements were executed then.
+// How many statements a session has executed, what its next six calls answer, and how many it has executed then.
 fn answers_of<O: Sink, U: Updater>(
     alloc: Global,
     session: &mut Session<'_, U>,
     out: &mut O,
     updater: &mut U,
 ) -> Result<String, NoMemory> {
+    let before = session.executed();
     let mut text = String::new(alloc);
-    for _ in 0..5 {
+    for _ in 0..6 {
         text.push_str(answer(session, out, updater))?;
         text.push_str(", ")?;
     }
     let executed = session.executed();
-    Ok(format!(in alloc; "{text}{executed} executed")?)
+    Ok(format!(in alloc; "{before}, {text}{executed}")?)
 }
 
 // A sink whose write of this number fails: none where it is 0.
@@ -101,22 +106,37 @@ fn answers_in<L: Ledger>(
     answers_of(alloc, &mut session, &mut sink, &mut steps)
 }
 
-// The same for the script, with a ledger of its own.
+// The same for the script of four statements, with a ledger of its own.
 fn answers(alloc: Global, write: u64) -> Result<String, Fail> {
     let graph = graph_in(alloc, NODES, EDGES)?;
-    let plan = planned(alloc, &graph, SCRIPT)?;
+    let plan = planned(alloc, &graph, SHOWN)?;
     Ok(answers_in::<Brand>(alloc, &graph, &plan, write, Blank::new(1))?)
 }
 
 #[test]
 fn a_session_ends_or_is_spent(rt: HostRuntime) -> Result<(), Fail> {
-    let whole = answers(rt.alloc(), 0)?;
-    assert_eq!(rt; whole.as_str(), "ran, ran, ended, ended, ended, 2 executed");
-    let cut = answers(rt.alloc(), 3)?;
-    assert_eq!(rt;
-        cut.as_str(),
-        "ran, write fault, is spent, is spent, is spent, 1 executed"
-    );
+    let rows = [
+        (0, "0, ran, ran, ran, ran, ended, ended, 4"),
+        (
+            1,
+            "0, ran, write fault, is spent, is spent, is spent, is spent, 1",
+        ),
+        (
+            3,
+            "0, ran, write fault, is spent, is spent, is spent, is spent, 1",
+        ),
+        (
+            4,
+            "0, ran, ran, write fault, is spent, is spent, is spent, 2",
+        ),
+    ];
+    for (write, told) in rows {
+        assert_eq!(rt;
+            answers(rt.alloc(), write)?.as_str(),
+            told,
+            "write {write} fails"
+        );
+    }
     Ok(())
 }
 

@@ -6,7 +6,8 @@
 //! definitions mean what they are meant to, and that a run finds memory.
 #![tactic(auto)]
 
-ghost use Rattle.std.specs.Prelude.{◌≡◌, ◌<◌, ◌≤◌};
+ghost use Rattle.std.specs.Prelude.{◌≡◌, ◌<◌, ◌≤◌, Some, map, string_bytes};
+ghost use Rattle.surge_cli.specs.Completing.{Completes};
 
 mod lacking;
 mod starter;
@@ -17,7 +18,7 @@ pub use starter::Starter;
 use std::alloc::{AllocError, Global};
 use std::sync::ledger::{Blank, Ledger};
 use surge_cli::{Status, surge};
-use surge_outside::{List, MemoryFiles, MemorySink, Steps, Text};
+use surge_outside::{List, MemoryFiles, MemorySink, Sink, Steps, SureFiles, SureSink, Text};
 pub use unreadable::UnreadableFiles;
 use vertex_lang::Updater;
 
@@ -120,7 +121,22 @@ pub fn run_memory<U: Updater>(
     })
 }
 
-/// The same, with a counter of steps as the updater.
+/// Runs the program over files and an output in memory that never fail. So where the words, the files and the script are
+/// accepted the whole output is written, or memory was wanting: no failure of an end can be answered.
+pub fn run_sure<E: Sink, U: Updater>(
+    alloc: Global,
+    words: &[String],
+    files: &mut SureFiles,
+    out: &mut SureSink,
+    err: &mut E,
+    updater: &mut U,
+) -> Status
+    ensures { Completes U.answer (Some files.old.held) (map string_bytes words.now) result (Some out.old.written) (Some out.new.written) }
+{
+    surge(alloc, words, files, out, err, updater)
+}
+
+/// [`run_memory`] with a counter of steps as the updater.
 pub fn run_counted<L: Ledger>(
     alloc: Global,
     blank: Blank,

@@ -3,6 +3,7 @@
 ghost use Rattle.std.specs.Prelude.{◌≡◌, ◌≤◌};
 
 mod faults;
+mod hostile;
 mod samples;
 mod sizes;
 mod turns;

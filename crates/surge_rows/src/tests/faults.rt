@@ -1,6 +1,6 @@
-//! What calls that fail, and pieces that are cut, do to a run.
+//! What calls that fail do to scripts and words beside the worked example, and which calls are not made.
 
-use super::{EDGES, NODES, SCRIPT, TABLES, contents, row, run, sure, whole};
+use super::{EDGES, NODES, SCRIPT, contents, row, run, sure, whole};
 use crate::Ends;
 use std::test::Fail;
 use surge_cli::{FileRole, Status};
@@ -19,37 +19,6 @@ const GROWN: [&str; 5] = [
 ];
 
 const CHECK: [&str; 5] = ["surge", "--script", "s", "--mode", "check"];
-
-#[test]
-fn each_view_is_run_alone_however_the_bytes_are_cut(rt: HostRuntime) -> Result<(), Fail> {
-    for piece in [1, 5, 4096] {
-        let left = row(&rt, &whole(), sure(piece))?;
-        assert_eq!(rt; left.status, Status::Done);
-        assert_eq!(rt; left.out.as_slice(), TABLES.as_bytes());
-        assert!(rt; left.err.is_empty());
-    }
-    Ok(())
-}
-
-#[test]
-fn each_failing_fetch_is_a_read_fault(rt: HostRuntime) -> Result<(), Fail> {
-    // Each file is one piece and its end, so a run makes six fetches.
-    for call in 1..8 {
-        let ends = Ends {
-            fetch: Some(call),
-            ..sure(4096)
-        };
-        let left = row(&rt, &whole(), ends)?;
-        if call < 7 {
-            assert_eq!(rt; left.status, Status::ReadFault, "at fetch {call}");
-            assert!(rt; left.out.is_empty());
-            assert_eq!(rt; left.err.as_slice(), b"surge: read fault\n".as_slice());
-        } else {
-            assert_eq!(rt; left.status, Status::Done);
-        }
-    }
-    Ok(())
-}
 
 #[test]
 fn nothing_is_read_behind_an_absent_file(rt: HostRuntime) -> Result<(), Fail> {
@@ -73,40 +42,6 @@ fn words_that_name_no_script_read_nothing(rt: HostRuntime) -> Result<(), Fail> {
     let words: [&str; 0] = [];
     let left = run(&rt, &words, &whole(), ends)?;
     assert_eq!(rt; left.status, Status::Usage);
-    Ok(())
-}
-
-#[test]
-fn each_failing_write_leaves_a_front(rt: HostRuntime) -> Result<(), Fail> {
-    // Each of the three tables has 47 bytes, so pieces of 7 make 7 writes each.
-    for call in 1..23 {
-        let ends = Ends {
-            write: Some(call),
-            ..sure(7)
-        };
-        let left = row(&rt, &whole(), ends)?;
-        if call < 22 {
-            assert_eq!(rt; left.status, Status::WriteFault, "at write {call}");
-            assert!(rt; TABLES.as_bytes().starts_with(left.out.as_slice()));
-            assert!(rt; left.out.len() < TABLES.len());
-            assert_eq!(rt; left.err.as_slice(), b"surge: write fault\n".as_slice());
-        } else {
-            assert_eq!(rt; left.status, Status::Done);
-        }
-    }
-    Ok(())
-}
-
-#[test]
-fn a_failing_write_leaves_whole_tables(rt: HostRuntime) -> Result<(), Fail> {
-    let ends = Ends {
-        write: Some(3),
-        ..sure(4096)
-    };
-    let left = row(&rt, &whole(), ends)?;
-    assert_eq!(rt; left.status, Status::WriteFault);
-    assert!(rt; TABLES.as_bytes().starts_with(left.out.as_slice()));
-    assert_eq!(rt; left.out.len(), 94);
     Ok(())
 }
 
@@ -145,18 +80,5 @@ fn the_text_of_a_script_is_one_piece(rt: HostRuntime) -> Result<(), Fail> {
             assert_eq!(rt; left.out.as_slice(), SCRIPT.as_bytes());
         }
     }
-    Ok(())
-}
-
-#[test]
-fn a_failing_report_changes_nothing_else(rt: HostRuntime) -> Result<(), Fail> {
-    let ends = Ends {
-        report: Some(1),
-        ..sure(4096)
-    };
-    let files = contents(SCRIPT, None, Some(EDGES));
-    let left = row(&rt, &files, ends)?;
-    assert_eq!(rt; left.status, Status::Absent(FileRole::Nodes));
-    assert!(rt; left.err.is_empty());
     Ok(())
 }
