@@ -60,17 +60,21 @@ def kit_with_other_compiler(kit, room):
     return f"{room}/kit/bin/rt"
 
 
-def compile_module(kit, room):
-    """Compiles and links the module in the folder room, and puts the program in its place."""
+def program_of(kit, room, name, more=None):
+    """Compiles and links the module in the folder room, with more code as text of the same kind, and returns the program."""
     clang = [f"{kit}/toolchain/bin/clang", f"--target={TARGET}", "--no-default-config", "-no-canonical-prefixes", "-fintegrated-cc1", "-x", "ir"]
     run([*clang, f"{room}/module.bc", "-S", "-emit-llvm", "-Xclang", "-disable-llvm-passes", "-o", f"{room}/module.ll"])
     with open(f"{room}/module.ll", encoding="utf-8", errors="surrogateescape") as lines, open(f"{room}/plain.ll", "w", encoding="utf-8", errors="surrogateescape") as to:
         to.writelines(it.replace("sanitize_address", "") for it in lines if not any(check in it for check in CHECKS))
-    run([*clang, "-O2", "-fPIE", "-ffunction-sections", "-fdata-sections", f"--sysroot={kit}/toolchain", "-c", f"{room}/plain.ll", "-o", f"{room}/module.o"])
-    linker = [f"{kit}/bin/rattle-link", "--target", TARGET, "--toolchain", f"{kit}/toolchain", "-o", f"{room}/first_look"]
-    run([*linker, f"{room}/module.o", f"{kit}/c/libos_c.a", f"{kit}/c/liblibc_c.a"])
-    os.makedirs(OUT, exist_ok=True)
-    shutil.copy(f"{room}/first_look", f"{BINARY}.new")
+    if more:
+        with open(f"{room}/more.ll", "w", encoding="utf-8") as to:
+            to.write(more)
+    parts = ["plain", *(["more"] if more else [])]
+    for part in parts:
+        run([*clang, "-O2", "-fPIE", "-ffunction-sections", "-fdata-sections", f"--sysroot={kit}/toolchain", "-c", f"{room}/{part}.ll", "-o", f"{room}/{part}.o"])
+    linker = [f"{kit}/bin/rattle-link", "--target", TARGET, "--toolchain", f"{kit}/toolchain", "-o", f"{room}/{name}"]
+    run([*linker, *(f"{room}/{part}.o" for part in parts), f"{kit}/c/libos_c.a", f"{kit}/c/liblibc_c.a"])
+    return f"{room}/{name}"
 
 
 def run(words):
@@ -93,7 +97,8 @@ def build():
         tried = subprocess.run([rt, "try"], cwd=f"{TOP}/crates/surge", stdin=subprocess.DEVNULL, stdout=subprocess.PIPE, stderr=subprocess.STDOUT, errors="replace", check=False)
         if not os.path.isfile(f"{room}/module.bc"):
             sys.exit(f"{tried.stdout[-4000:]}\nsurge: the sources were not compiled, so there is no first look")
-        compile_module(kit, room)
+        os.makedirs(OUT, exist_ok=True)
+        shutil.copy(program_of(kit, room, "first_look"), f"{BINARY}.new")
     os.utime(f"{BINARY}.new", (begun, begun))
     os.replace(f"{BINARY}.new", BINARY)
 
