@@ -3,7 +3,7 @@ use Rattle.std.proofs.Common.{List, ℕ, [], ◌∷◌, Option, Ok, Err, refl, s
 use Rattle.surge_cli.specs.declared.status.FileRole.TheVariants as role
 use Rattle.surge_cli.specs.declared.status.FileRole.{FileRole}
 use Rattle.surge_cli.specs.FilesState.{AsksNoOther, AsksEach}
-use Rattle.surge_cli.specs.Causes.{AsksOnly, IsUpTo, UpTo}
+use Rattle.surge_cli.specs.Causes.{IsUpTo, UpTo}
 use Rattle.surge_cli.specs.Expected.{Held, fetched, graph_with}
 use Rattle.surge_cli.specs.Reaches.{IsFetched, ReachesData}
 use Rattle.surge_cli.specs.Stages.{IsFile, RisesBefore, IsSaidOf}
