@@ -1,5 +1,5 @@
 -- The answers that are held.
-use Rattle.std.proofs.Common.{◌≡◌, ◌≢◌, ◌∙◌, ◌<◌, ◌++◌, ◌∷◌, ◌==◌, [], ℕ, zero, suc, Bool, true, false, cond, List, length, map, take, get_or, slice_get, All, Option, Some, None, ◌⊎◌, refl, sym, ap, subst, arith, inl, inr}
+use Rattle.std.proofs.Common.{◌≡◌, ◌≢◌, ◌∙◌, ◌<◌, ◌∷◌, ◌==◌, [], ℕ, zero, suc, Bool, true, false, cond, List, length, map, take, get_or, All, Option, Some, None, ◌⊎◌, refl, sym, ap, subst, arith, inl, inr}
 use Rattle.std.specs.List.{find}
 use Rattle.std.specs.Prelude.{IsNone}
 use Rattle.std.proofs.lemmas.Bool.Decides.{eqb_tells}

@@ -1,5 +1,5 @@
 -- The edges and arcs of views.
-use Rattle.std.proofs.Common.{◌≡◌, ◌<◌, ℕ, List, length, map, All, Some, sym, ap, subst, arith}
+use Rattle.std.proofs.Common.{◌≡◌, ◌<◌, ℕ, length, map, All, Some, sym, ap, subst, arith}
 use Rattle.std.specs.List.{range_with_len}
 use Rattle.std.proofs.lemmas.List.Elements.{All-filter}
 use Rattle.std.proofs.lemmas.List.FromFn.{get_or-map-range_with_len, length-map-range_with_len}

@@ -1,5 +1,5 @@
 -- The answer on one more view joins the answers.
-use Rattle.std.proofs.Common.{◌≡◌, ◌≢◌, ◌∙◌, ◌+◌, ◌*◌, ◌<◌, ◌≤◌, ◌++◌, ◌∷◌, ◌==◌, [], ℕ, Bool, cond, List, length, map, drop, get_or, All, Option, Some, None, refl, sym, ap, subst, arith}
+use Rattle.std.proofs.Common.{◌≡◌, ◌≢◌, ◌∙◌, ◌+◌, ◌*◌, ◌<◌, ◌≤◌, ◌∷◌, [], ℕ, Bool, cond, List, length, map, drop, get_or, All, Option, Some, None, sym, ap, subst, arith}
 use Rattle.std.proofs.lemmas.Bool.{eq-eqb, ne_eqb}
 use Rattle.std.proofs.lemmas.List.{at_drop_more, length-map}
 use Rattle.std.proofs.lemmas.List.Elements.{All-append, All-cons, All-nil}
@@ -19,9 +19,8 @@ use Rattle.result_tables.specs.Results.{Held, ResultsData, held_on, table_held, 
 use Rattle.result_tables.specs.TableText.{table_of}
 use Rattle.phase_runs.specs.declared.course.Course.{Course}
 use Rattle.phase_runs.specs.declared.course.Reached.{Reached}
-use Rattle.phase_runs.specs.declared.views.Answered.{Answered}
 use Rattle.phase_runs.specs.Answers.{answer_on, own_run, own_runs, HoldsAnswer}
-use Rattle.phase_runs.specs.Courses.{held_of, told, with_held, IsLast, IsRight, LastStands, Reaches, ReachesOn, Stands}
+use Rattle.phase_runs.specs.Courses.{held_of, with_held, IsLast, IsRight, Reaches, ReachesOn}
 use Rattle.phase_runs.proofs.Answering.{find-right, map-at}
 use Rattle.phase_runs.proofs.Arcs.{same-arcs}
 

@@ -1,7 +1,6 @@
 -- What the views of a run in phases share, and what is reached on one of them. Only the code's own contracts cite it.
 use Rattle.std.specs.Prelude.{◌≡◌, ℕ, ◌*◌, ◌≤◌, List, [], ◌∷◌, ◌++◌, length, All, Option, Some, None}
 use Rattle.graph_model.specs.declared.number.ViewNo.{ViewNo}
-use Rattle.graph_model.specs.declared.value.Val.{Val}
 use Rattle.vertex_lang.specs.declared.arc.Arc.{Arc}
 use Rattle.vertex_lang.specs.declared.lone.Lone.{Lone}
 use Rattle.vertex_lang.specs.Expressions.{Answer}

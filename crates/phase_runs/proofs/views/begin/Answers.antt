@@ -1,5 +1,5 @@
 -- All nodes with their values are a first change.
-use Rattle.std.proofs.Common.{◌≡◌, ◌∙◌, List, None, length, sym, ap, subst}
+use Rattle.std.proofs.Common.{◌∙◌, List, None, sym, ap, subst}
 use Rattle.graph_model.specs.declared.number.NodeNo.{NodeNo}
 use Rattle.graph_model.specs.declared.value.Val.{Val}
 use Rattle.result_tables.specs.Changes.{all_from}

@@ -1,5 +1,5 @@
 -- Where no edge differs the answer is the same; else the nodes whose values differ are a change.
-use Rattle.std.proofs.Common.{◌≡◌, ◌∙◌, List, Some, length, sym, ap, ap₂, subst}
+use Rattle.std.proofs.Common.{◌∙◌, List, Some, sym, ap, ap₂, subst}
 use Rattle.graph_model.specs.declared.number.NodeNo.{NodeNo}
 use Rattle.graph_model.specs.declared.value.Val.{Val}
 use Rattle.result_tables.specs.Changes.{changes_from}

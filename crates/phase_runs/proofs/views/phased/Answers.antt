@@ -1,10 +1,10 @@
 -- The next view of the order is new, and takes at most its own run.
-use Rattle.std.proofs.Common.{◌≡◌, ◌∙◌, ◌+◌, ◌*◌, ◌<◌, ◌≤◌, ◌++◌, ◌∷◌, [], ℕ, List, Option, Some, None, length, drop, get_or, sym, ap, subst, arith}
+use Rattle.std.proofs.Common.{◌∙◌, ◌+◌, ◌*◌, ◌<◌, ◌≤◌, ◌++◌, ◌∷◌, [], ℕ, List, Option, Some, None, length, drop, get_or, sym, ap, subst, arith}
 use Rattle.std.proofs.lemmas.List.{take_all, take_more}
 use Rattle.graph_model.specs.declared.number.ViewNo.{ViewNo}
 use Rattle.phase_runs.specs.declared.course.Course.{Course}
 use Rattle.phase_runs.specs.Answers.{own_runs}
-use Rattle.phase_runs.specs.Courses.{most_calls, place_of_last}
+use Rattle.phase_runs.specs.Courses.{place_of_last}
 use Rattle.phase_runs.proofs.Answering.{new-view}
 use Rattle.phase_runs.proofs.Joining.{calls-more, table-held}
 use Rattle.phase_runs.proofs.views.phased.Goals as goal

@@ -1,0 +1,5 @@
+//! The cases, and what they share.
+
+mod programs;
+mod rows;
+mod runs;
