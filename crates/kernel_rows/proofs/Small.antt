@@ -1,4 +1,4 @@
--- Programs whose parts are single words, and the edges in which two small views differ.
+-- The edges in which two small views differ.
 use Rattle.std.proofs.Common.{◌≡◌, ◌≢◌, ◌<◌, ◌≤◌, ◌+◌, ◌++◌, ◌∷◌, [], ℕ, List, true, false, get_or, sym, subst, refl, inl, inr, arith}
 use Rattle.std.specs.Prelude.{Bool, Contains, IsTrue}
 use Rattle.std.proofs.Math.Bool.{not, beq}
@@ -10,14 +10,6 @@ use Rattle.graph_model.specs.GraphData.{GraphData}
 use Rattle.vertex_lang.specs.declared.program.Program.{Program}
 use Rattle.vertex_lang.specs.Leaves.{Leaf, IsChecked, leaves_of, in_start, in_send, in_update}
 use Rattle.arc_rows.specs.RowLists.{edge}
-
-pub fits : (p : Program) (graph : GraphData) (start send update : List Leaf) → leaves_of p.start ≡ start → leaves_of p.send ≡ send → leaves_of p.update ≡ update
-    → IsTrue (list_all (in_start graph.node_columns) start) → IsTrue (list_all (in_send graph.edge_columns) send) → IsTrue (list_all in_update update) → IsChecked p graph
-fits p graph start send update e f g h k l = record {
-  start = subst (λ (ls : List Leaf). IsTrue (list_all (in_start graph.node_columns) ls)) (sym e) h;
-  send = subst (λ (ls : List Leaf). IsTrue (list_all (in_send graph.edge_columns) ls)) (sym f) k;
-  update = record { update = subst (λ (ls : List Leaf). IsTrue (list_all in_update ls)) (sym g) l };
-}
 
 -- each edge before this one that is in one of the two views alone is told
 abbrev pub TellsBefore : List Bool → List Bool → List EdgeNo → ℕ → Type 0

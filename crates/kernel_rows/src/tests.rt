@@ -1,7 +1,6 @@
-//! Small segments, worked out by hand.
+//! Small views, worked out by hand.
 
-mod cases;
 mod chained;
-mod programs;
-mod segment;
-mod updaters;
+mod plain;
+mod steps;
+mod views;

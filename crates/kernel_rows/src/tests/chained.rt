@@ -2,47 +2,73 @@
 
 use change_lists::ChainedLists;
 use graph_model::NodeNo;
+use std::alloc::{AllocError, Global};
 use std::test::Fail;
-use surge_outside::List;
+use surge_outside::{List, NoMemory};
+
+// The items of a list.
+fn push_items(alloc: Global, text: &mut String, items: &[NodeNo]) -> Result<(), AllocError> {
+    for item in items {
+        text.push_str(format!(in alloc; "{} ", item.0)?.as_str())?;
+    }
+    Ok(())
+}
+
+// The items of each list and of the place behind the last.
+fn listed(alloc: Global, chained: &ChainedLists<NodeNo>) -> Result<String, AllocError> {
+    let mut text = String::new(alloc);
+    for place in 0..chained.len().saturating_add(1) {
+        push_items(alloc, &mut text, chained.at(place))?;
+        text.push_str(";")?;
+    }
+    Ok(text)
+}
+
+// Adds these lists, long ones where it is said.
+fn push_all(
+    alloc: Global,
+    chained: &mut ChainedLists<NodeNo>,
+    lists: &[(bool, &[NodeNo])],
+) -> Result<(), NoMemory> {
+    for (is_long, list) in lists {
+        if *is_long {
+            chained.push_owned(List::from_vec(Vec::from_slice(alloc, list)?))?;
+        } else {
+            chained.push(list)?;
+        }
+    }
+    Ok(())
+}
 
 #[test]
 fn lists_are_told_apart(rt: HostRuntime) -> Result<(), Fail> {
+    let lists: [(bool, &[NodeNo]); 3] = [
+        (false, &[NodeNo(3)]),
+        (false, &[]),
+        (false, &[NodeNo(1), NodeNo(2)]),
+    ];
     let mut chained = ChainedLists::with_room(rt.alloc(), 2, 1)?;
-    chained.push(&[NodeNo(3)])?;
-    chained.push(&[])?;
-    chained.push(&[NodeNo(1), NodeNo(2)])?;
-    assert_eq!(rt; chained.len(), 3);
-    assert_eq!(rt; chained.at(0), [NodeNo(3)].as_slice());
-    assert_eq!(rt; chained.at(1).len(), 0);
-    assert_eq!(rt; chained.at(2), [NodeNo(1), NodeNo(2)].as_slice());
-    assert_eq!(rt; chained.at(3).len(), 0);
+    push_all(rt.alloc(), &mut chained, &lists)?;
+    assert_eq!(rt; listed(rt.alloc(), &chained)?.as_str(), "3 ;;1 2 ;;");
     chained.truncate(1);
-    assert_eq!(rt; chained.len(), 1);
-    chained.push(&[NodeNo(4)])?;
-    assert_eq!(rt; chained.at(0), [NodeNo(3)].as_slice());
-    assert_eq!(rt; chained.at(1), [NodeNo(4)].as_slice());
+    push_all(rt.alloc(), &mut chained, &[(false, &[NodeNo(4)])])?;
+    assert_eq!(rt; listed(rt.alloc(), &chained)?.as_str(), "3 ;4 ;;");
     Ok(())
 }
 
 #[test]
 fn long_lists_stand_among_short_ones(rt: HostRuntime) -> Result<(), Fail> {
-    let alloc = rt.alloc();
-    let mut chained = ChainedLists::new(alloc);
-    chained.push(&[NodeNo(3)])?;
-    let long = vec![in alloc; NodeNo(5), NodeNo(6)]?;
-    chained.push_owned(List::from_vec(long))?;
-    chained.push(&[NodeNo(1), NodeNo(2)])?;
-    chained.push_owned(List::new(alloc))?;
-    assert_eq!(rt; chained.len(), 4);
-    assert_eq!(rt; chained.at(0), [NodeNo(3)].as_slice());
-    assert_eq!(rt; chained.at(1), [NodeNo(5), NodeNo(6)].as_slice());
-    assert_eq!(rt; chained.at(2), [NodeNo(1), NodeNo(2)].as_slice());
-    assert_eq!(rt; chained.at(3).len(), 0);
+    let lists: [(bool, &[NodeNo]); 4] = [
+        (false, &[NodeNo(3)]),
+        (true, &[NodeNo(5), NodeNo(6)]),
+        (false, &[NodeNo(1), NodeNo(2)]),
+        (true, &[]),
+    ];
+    let mut chained = ChainedLists::new(rt.alloc());
+    push_all(rt.alloc(), &mut chained, &lists)?;
+    assert_eq!(rt; listed(rt.alloc(), &chained)?.as_str(), "3 ;5 6 ;1 2 ;;;");
     chained.truncate(2);
-    let long = vec![in alloc; NodeNo(7)]?;
-    chained.push_owned(List::from_vec(long))?;
-    assert_eq!(rt; chained.len(), 3);
-    assert_eq!(rt; chained.at(1), [NodeNo(5), NodeNo(6)].as_slice());
-    assert_eq!(rt; chained.at(2), [NodeNo(7)].as_slice());
+    push_all(rt.alloc(), &mut chained, &[(true, &[NodeNo(7)])])?;
+    assert_eq!(rt; listed(rt.alloc(), &chained)?.as_str(), "3 ;5 6 ;7 ;;");
     Ok(())
 }

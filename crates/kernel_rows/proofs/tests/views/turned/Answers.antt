@@ -5,8 +5,8 @@ use Rattle.std.proofs.lemmas.List.Elements.{All-push}
 use Rattle.graph_model.specs.declared.number.EdgeNo.{EdgeNo}
 use Rattle.arc_rows.specs.RowLists.{edge}
 use Rattle.kernel_rows.proofs.Small.{TellsBefore, not-other, tells-pushed, tells-equal}
-use Rattle.kernel_rows.proofs.tests.segment.turned.Goals as goal
-use Rattle.kernel_rows.proofs.tests.segment.turned.Goals.{then-old-edge+in_ok-push, else-old-edge}
+use Rattle.kernel_rows.proofs.tests.views.turned.Goals as goal
+use Rattle.kernel_rows.proofs.tests.views.turned.Goals.{then-old-edge+in_ok-push, else-old-edge}
 
 pub loop-edge-preserved : goal.loop-edge-preserved
 loop-edge-preserved c =

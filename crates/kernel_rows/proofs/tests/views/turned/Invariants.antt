@@ -1,7 +1,7 @@
 use Rattle.std.proofs.Common.{◌<◌, ◌≤◌, length}
 use Rattle.std.specs.Prelude.{All}
 use Rattle.kernel_rows.proofs.Small.{TellsBefore}
-use Rattle.kernel_rows.proofs.tests.segment.turned.Given as goal
+use Rattle.kernel_rows.proofs.tests.views.turned.Given as goal
 
 abbrev pub invariant-loop-edge : goal.invariant-loop-edge
 invariant-loop-edge l = record {
