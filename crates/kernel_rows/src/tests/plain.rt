@@ -119,6 +119,24 @@ fn work_text<U: Updater>(
 }
 
 // Both of these.
+fn texts<U: Updater>(
+    alloc: Global,
+    program: &Program,
+    graph: &Graph,
+    old: &[bool],
+    new: &[bool],
+    updater: &mut U,
+) -> Result<String, NoMemory>
+    requires checked { IsChecked program.now graph.now }
+    requires old { length old.now ≡ length graph.now.ends }
+    requires new { length new.now ≡ length graph.now.ends }
+{
+    let run = view_text(alloc, program, graph, new, updater)?;
+    let works = work_text(alloc, program, graph, old, new, updater)?;
+    Ok(format!(in alloc; "{run}{works}")?)
+}
+
+// The same of hop counts from the node 1, where the views are of the graph.
 fn plain_text<U: Updater>(
     alloc: Global,
     graph: &Graph,
@@ -131,9 +149,7 @@ fn plain_text<U: Updater>(
         return Ok(String::new(alloc));
     }
     let program = hops(alloc, 1)?;
-    let mut text = view_text(alloc, &program, graph, new, updater)?;
-    text.push_str(work_text(alloc, &program, graph, old, new, updater)?.as_str())?;
-    Ok(text)
+    texts(alloc, &program, graph, old, new, updater)
 }
 
 fn plain<L: Ledger>(

@@ -124,7 +124,15 @@ fn steps<U: Updater>(
     let stepped = first_step(alloc, program, graph, &mut kernel, old, rounds, updater)?;
     let history = &stepped.history;
     let later = later_step(
-        alloc, program, graph, &mut kernel, history, old, new, rounds, updater,
+        alloc,
+        program,
+        graph,
+        &mut kernel,
+        history,
+        old,
+        new,
+        rounds,
+        updater,
     )?;
     joined(alloc, &stepped, later.as_str())
 }
