@@ -1,0 +1,14 @@
+pub mod Filters
+pub mod Transport
+pub mod Choosing
+pub mod Results
+pub mod Stepping
+pub mod Turning
+pub mod Showing
+pub mod Holding
+pub mod Behind
+pub mod Listing
+pub mod Rounds
+pub mod More
+pub mod Finding
+pub mod Same

@@ -1,0 +1,21 @@
+use Rattle.std.proofs.Common.{◌∙◌, subst}
+use Rattle.view_versions.proofs.Stepping.{history-chosen, later-chosen}
+use Rattle.view_versions.proofs.Turning.{former-size}
+use Rattle.view_versions.specs.Edits.{taken_back}
+use Rattle.view_versions.specs.Flags.{AreTwo}
+use Rattle.view_versions.proofs.step.step_edited.Goals as goal
+
+pub step_over-requires-clause-two : goal.step_over-requires-clause-two
+step_over-requires-clause-two g c = subst (λ n. AreTwo n c.in_ok-two.two) c.requires.setting.matrix c.in_ok-two.ensures.two
+
+pub step_over-requires-clause-history : goal.step_over-requires-clause-history
+step_over-requires-clause-history g c =
+    let m = c.args.setting.matrix.now in
+    history-chosen g.U.Updater.answer c.args.setting c.args.kernel.now c.requires.setting (taken_back m c.args.changes.now) c.args.view.0 c.in_ok-two.two.old.items c.args.history.now
+    (former-size m c.args.changes.now c.requires.edits ∙ c.requires.setting.matrix) c.in_ok-two.ensures.old c.requires.history
+
+pub returns-clause-step : goal.returns-clause-step
+returns-clause-step g c =
+    let m = c.args.setting.matrix.now in
+    later-chosen g.U.Updater.answer c.args.setting c.args.kernel.now c.requires.setting (taken_back m c.args.changes.now) m c.args.view.0 c.args.view.0 c.in_ok-two.two.old.items c.in_ok-two.two.new.items c.step_over.result
+    (former-size m c.args.changes.now c.requires.edits ∙ c.requires.setting.matrix) c.requires.setting.matrix c.in_ok-two.ensures.old c.in_ok-two.ensures.new c.step_over.ensures.step

@@ -1,0 +1,9 @@
+pub mod Edits
+pub mod Touched
+pub mod Runs
+pub mod Engines
+pub mod Flags
+pub mod Slow
+pub mod Laws
+pub mod EditLaws
+pub mod TouchLaws
