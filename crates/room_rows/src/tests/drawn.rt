@@ -6,11 +6,11 @@ use std::test::Fail;
 #[test]
 fn the_first_draws_of_seed_one(rt: HostRuntime) -> Result<(), Fail> {
     let mut draws = Draws::new(1);
-    assert_eq!(rt; draws.draw(2000), 1548);
+    assert!(rt; draws.draw(2000) == 1548);
     let state = format!(in rt.alloc(); "{draws:?}")?;
-    assert_eq!(rt; state.as_str(), "Draws { state: 7806831264735756412 }");
+    assert!(rt; state.as_str() == "Draws { state: 7806831264735756412 }");
     let mut all = Draws::new(1);
-    assert_eq!(rt; all.draw(4_294_967_295), 1_817_669_548);
+    assert!(rt; all.draw(4_294_967_295) == 1_817_669_548);
     Ok(())
 }
 
