@@ -2,7 +2,7 @@
 
 python3 changes.py FILE     writes the tables of the text in the file, or `line N`, the first line, from 1, that no change
                             text has behind the lines before it
-python3 changes.py --table  writes the table of tests of the room `change_text`: each line of a text of a few blocks, cut
+python3 changes.py --table  writes the table that stands in the room `room_rows`: each line of a text of a few blocks, cut
                             at each byte, and with each byte exchanged for one of each class
 """
 

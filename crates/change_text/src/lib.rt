@@ -32,6 +32,3 @@ pub use fault::{ReplayError, ReplayFault, ReplayStop};
 pub use laws::{one_reading, tables_come_back};
 pub use tables::replay;
 pub use write::write_change;
-
-#[cfg(test)]
-mod tests;

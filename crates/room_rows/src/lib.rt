@@ -5,8 +5,9 @@
 //! small graphs answer, and edges that are added (`graph_model`); lists that are one multiset (`multisets`); the work of
 //! views of two edges (`lone_work`); that the built-in programs are made (`graph_algos`); updates that are
 //! made at once, and others (`quick_updates`); small walks (`walk_theory`); the first numbers of a seed (`draws`); where a run
-//! starts anew (`segment_split`); times and their laws (`lattice_time`); weights and batches (`weighted`); and
-//! the text of tables, and answers of views that stand behind one another (`result_tables`).
+//! starts anew (`segment_split`); times and their laws (`lattice_time`); weights and batches (`weighted`);
+//! the text of tables, and answers of views that stand behind one another (`result_tables`); and texts of tables as differences,
+//! read and written (`change_text`).
 #![tactic(auto)]
 
 #[cfg(test)]

@@ -1,5 +1,6 @@
 //! Rows, worked out by hand. Each file has those of a room; `small_graphs` has what two of them share.
 
+mod changes;
 mod drawn;
 mod files;
 mod graphs;

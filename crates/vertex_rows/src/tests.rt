@@ -2,10 +2,11 @@
 
 mod cases;
 mod drawn;
-mod grid;
+mod feeds;
+mod flows;
 mod kernel;
 mod plain;
-mod positions;
 mod programs;
 mod starts;
 mod views;
+mod works;

@@ -66,16 +66,15 @@ fn add_nine(alloc: Global, graph: &mut Graph) -> Result<bool, NoMemory> {
     Ok(true)
 }
 
-// The graph of the four edges, and one more.
-fn five_edges(alloc: Global) -> Result<Graph, Fail> {
-    let mut graph = graph_of(alloc, FOUR_NODES, FOUR_EDGES)?;
-    add_nine(alloc, &mut graph)?;
-    Ok(graph)
+// The edges of that graph behind this.
+fn edges_with_nine(alloc: Global, graph: &mut Graph) -> Result<String, Fail> {
+    add_nine(alloc, graph)?;
+    edges_text(alloc, graph)
 }
 
 fn edges_behind(alloc: Global) -> Result<String, Fail> {
-    let graph = five_edges(alloc)?;
-    Ok(edges_text(alloc, &graph)?)
+    let mut graph = graph_of(alloc, FOUR_NODES, FOUR_EDGES)?;
+    edges_with_nine(alloc, &mut graph)
 }
 
 #[test]

@@ -133,13 +133,18 @@ fn fault_of(alloc: Global, graph: &mut Graph, more: &[u8]) -> Result<String, Fai
     Ok(text)
 }
 
-// What a further file makes of the graph of an edges file.
+// What a further file makes of a graph.
+fn extended_over(alloc: Global, graph: &mut Graph, more: &[u8]) -> Result<String, Fail> {
+    let fault = fault_of(alloc, graph, more)?;
+    let edges = edges_text(alloc, graph)?;
+    Ok(format!(in alloc; "{fault}{edges}")?)
+}
+
+// What it makes of the graph of an edges file.
 fn extended(alloc: Global, edges: &str, more: &str) -> Result<String, Fail> {
-    let mut graph = graph_of(alloc, FOUR_NODES, edges)?;
     let more = bytes_of(alloc, more)?;
-    let mut text = fault_of(alloc, &mut graph, more.as_slice())?;
-    text.push_str(edges_text(alloc, &graph)?.as_str())?;
-    Ok(text)
+    let mut graph = graph_of(alloc, FOUR_NODES, edges)?;
+    extended_over(alloc, &mut graph, more.as_slice())
 }
 
 #[test]
@@ -160,27 +165,45 @@ fn loops(alloc: Global, count: u32) -> Result<String, Fail> {
     Ok(text)
 }
 
+// The graph of that file.
+fn graph_of_loops(alloc: Global, count: u32) -> Result<Graph, Fail> {
+    let edges = loops(alloc, count)?;
+    graph_of(alloc, "id\n1\n", edges.as_str())
+}
+
 // The fault of a further file of so many edges, and how many edges the graph has then.
 fn counted(alloc: Global, graph: &mut Graph, count: u32) -> Result<String, Fail> {
     let more = loops(alloc, count)?;
-    let mut text = fault_of(alloc, graph, more.as_bytes())?;
-    let edges = format!(in alloc; "{}", graph.edge_count())?;
-    text.push_str(edges.as_str())?;
+    let fault = fault_of(alloc, graph, more.as_bytes())?;
+    Ok(format!(in alloc; "{fault}{};", graph.edge_count())?)
+}
+
+// The same of several files, one behind the other.
+fn counted_in_turn(alloc: Global, graph: &mut Graph, counts: &[u32]) -> Result<String, Fail> {
+    let mut text = String::new(alloc);
+    for count in counts {
+        text.push_str(counted(alloc, graph, *count)?.as_str())?;
+    }
     Ok(text)
+}
+
+// The same of a graph that may have two edges more.
+fn counted_at_the_limit(alloc: Global, counts: &[u32]) -> Result<String, Fail> {
+    let mut graph = graph_of_loops(alloc, 3_999_998)?;
+    counted_in_turn(alloc, &mut graph, counts)
 }
 
 #[test]
 fn edges_that_are_there_count_for_the_limit(rt: HostRuntime) -> Result<(), Fail> {
-    let alloc = rt.alloc();
-    let edges = loops(alloc, 3_999_998)?;
-    let mut graph = graph_of(alloc, "id\n1\n", edges.as_str())?;
-    let over = counted(alloc, &mut graph, 3)?;
-    assert_eq!(rt; over.as_str(), "Insert(5) 4 0 TooManyEdges 3999998");
-    let full = counted(alloc, &mut graph, 2)?;
-    assert_eq!(rt; full.as_str(), "4000000");
-    let none = counted(alloc, &mut graph, 0)?;
-    assert_eq!(rt; none.as_str(), "4000000");
-    let one = counted(alloc, &mut graph, 1)?;
-    assert_eq!(rt; one.as_str(), "Insert(5) 2 0 TooManyEdges 4000000");
+    let found = counted_at_the_limit(rt.alloc(), &[3, 2, 0, 1])?;
+    assert_eq!(rt;
+        found.as_str(),
+        concat!(
+            "Insert(5) 4 0 TooManyEdges 3999998;",
+            "4000000;",
+            "4000000;",
+            "Insert(5) 2 0 TooManyEdges 4000000;",
+        )
+    );
     Ok(())
 }

@@ -7,6 +7,7 @@ use crate::tests::views::{Part, distance, matrix_of_rows};
 use edge_predicates::Cmp;
 use graph_model::{EdgeNo, Graph, ViewNo};
 use std::alloc::{AllocError, Global};
+use std::fmt::Write;
 use std::test::Fail;
 use view_matrix::Matrix;
 use view_order::{greedy, views_from};
@@ -20,8 +21,7 @@ fn figures(alloc: Global, matrix: &Matrix) -> Result<String, AllocError> {
         let size = matrix.size(ViewNo(view));
         let start = distance(matrix, None, view);
         let first = distance(matrix, Some(0), view);
-        let part = format!(in alloc; "{size} {start} {first};")?;
-        text.push_str(part.as_str())?;
+        write!(text, "{size} {start} {first};")?;
     }
     Ok(text)
 }
@@ -140,24 +140,23 @@ fn bits(alloc: Global, matrix: &Matrix, graph: &Graph) -> Result<String, AllocEr
         let live = matrix.live(edge);
         let bit = matrix.bit(edge, ViewNo(0));
         let holds = matrix.rule_bit(edge, ViewNo(0));
-        let part = format!(in alloc; "{live} {bit} {holds};")?;
-        text.push_str(part.as_str())?;
+        write!(text, "{live} {bit} {holds};")?;
     }
     Ok(text)
 }
 
-fn bits_and_figures(alloc: Global, matrix: &Matrix, graph: &Graph) -> Result<String, AllocError>
+fn bits_and_figures(alloc: Global, matrix: &Matrix, graph: &Graph) -> Result<String, Fail>
     requires { length matrix.now.live ≡ length graph.now.ends }
 {
     let bits = bits(alloc, matrix, graph)?;
     let figures = figures(alloc, matrix)?;
-    format!(in alloc; "{bits}{figures}")
+    Ok(format!(in alloc; "{bits}{figures}")?)
 }
 
 fn edited_over(alloc: Global, graph: &Graph) -> Result<String, Fail> {
     let mut matrix = matrix_of_rows(alloc, graph, &FOUR_VIEWS, &[])?;
     drop_last(&mut matrix, graph);
-    Ok(bits_and_figures(alloc, &matrix, graph)?)
+    bits_and_figures(alloc, &matrix, graph)
 }
 
 // What the four views answer behind an edit.
@@ -182,7 +181,7 @@ fn an_edge_that_is_no_longer_live(rt: HostRuntime) -> Result<(), Fail> {
 fn edges_file(alloc: Global, count: u32) -> Result<String, AllocError> {
     let mut text = String::from_str(alloc, "src,dst,y:int\n")?;
     for number in 0..count {
-        text.push_str(format!(in alloc; "1,2,{number}\n")?.as_str())?;
+        write!(text, "1,2,{number}\n")?;
     }
     Ok(text)
 }

@@ -6,6 +6,7 @@ ghost use Rattle.std.specs.Prelude.{◌<◌, length};
 use crate::tests::small_graphs::{FOUR_EDGES, FOUR_NODES, graph_of};
 use graph_model::{EdgeNo, Graph, NodeNo};
 use std::alloc::{AllocError, Global};
+use std::fmt::Write;
 use std::test::Fail;
 
 // Two files, and what they load as: of the nodes the columns, whether one has the id 5, and then of each its id, the node
@@ -67,23 +68,26 @@ fn node_text(alloc: Global, graph: &Graph, n: NodeNo) -> Result<String, AllocErr
     };
     let mut text = format!(in alloc; "{id}={found}")?;
     for column in 0..graph.node_columns().len() {
-        let cell = format!(in alloc; " {:?}", graph.node_cell(n, column))?;
-        text.push_str(cell.as_str())?;
+        write!(text, " {:?}", graph.node_cell(n, column))?;
     }
     Ok(text)
 }
 
-// The columns of the nodes, the node with the id 5, which none has, and then the nodes, each with the number of the node at
-// its place by rising id.
+// The same of each node, with the number of the node at its place by rising id.
 fn nodes_text(alloc: Global, graph: &Graph) -> Result<String, AllocError> {
-    let columns = graph.node_columns().as_slice();
-    let mut text = format!(in alloc; "{columns:?} {:?} ", graph.find(5))?;
+    let mut text = String::new(alloc);
     for n in 0..graph.node_count() {
-        let node = node_text(alloc, graph, NodeNo(n))?;
-        let part = format!(in alloc; "{node};{} ", graph.by_id(n).0)?;
-        text.push_str(part.as_str())?;
+        text.push_str(node_text(alloc, graph, NodeNo(n))?.as_str())?;
+        write!(text, ";{} ", graph.by_id(n).0)?;
     }
     Ok(text)
+}
+
+// The columns of the nodes, the node with the id 5, which none has, and then the nodes.
+fn all_of_nodes(alloc: Global, graph: &Graph) -> Result<String, AllocError> {
+    let nodes = nodes_text(alloc, graph)?;
+    let columns = graph.node_columns().as_slice();
+    format!(in alloc; "{columns:?} {:?} {nodes}", graph.find(5))
 }
 
 // The numbers of an edge's ends, and its cells.
@@ -92,34 +96,32 @@ fn edge_text(alloc: Global, graph: &Graph, e: EdgeNo) -> Result<String, AllocErr
 {
     let mut text = format!(in alloc; "{}>{}", graph.src(e).0, graph.dst(e).0)?;
     for column in 0..graph.edge_columns().len() {
-        let cell = format!(in alloc; " {:?}", graph.edge_cell(e, column))?;
-        text.push_str(cell.as_str())?;
+        write!(text, " {:?}", graph.edge_cell(e, column))?;
     }
+    text.push_str(" ")?;
     Ok(text)
 }
 
 /// The edges, each by the numbers of its ends, with its cells.
-pub(crate) fn edges_text(alloc: Global, graph: &Graph) -> Result<String, AllocError> {
+pub(crate) fn edges_text(alloc: Global, graph: &Graph) -> Result<String, Fail> {
     let mut text = String::new(alloc);
     for e in 0..graph.edge_count() {
-        let edge = edge_text(alloc, graph, EdgeNo(e))?;
-        text.push_str(edge.as_str())?;
-        text.push_str(" ")?;
+        text.push_str(edge_text(alloc, graph, EdgeNo(e))?.as_str())?;
     }
     Ok(text)
 }
 
-fn graph_text(alloc: Global, graph: &Graph) -> Result<String, AllocError> {
-    let nodes = nodes_text(alloc, graph)?;
+fn graph_text(alloc: Global, graph: &Graph) -> Result<String, Fail> {
+    let nodes = all_of_nodes(alloc, graph)?;
     let edges = edges_text(alloc, graph)?;
     let columns = graph.edge_columns().as_slice();
-    format!(in alloc; "{nodes}/ {columns:?} {edges}")
+    Ok(format!(in alloc; "{nodes}/ {columns:?} {edges}")?)
 }
 
 // What two files load as.
 fn loaded(alloc: Global, nodes: &str, edges: &str) -> Result<String, Fail> {
     let graph = graph_of(alloc, nodes, edges)?;
-    Ok(graph_text(alloc, &graph)?)
+    graph_text(alloc, &graph)
 }
 
 #[test]

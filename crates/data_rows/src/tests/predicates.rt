@@ -5,6 +5,7 @@ use crate::tests::views::{Form, Part, rules};
 use edge_predicates::{Cmp, Place, Pred, ViewRule, holds, view_edges};
 use graph_model::{EdgeNo, Graph};
 use std::alloc::{AllocError, Global};
+use std::fmt::Write;
 use std::test::Fail;
 use surge_outside::List;
 
@@ -28,30 +29,28 @@ fn said_by_no_script(alloc: Global) -> Result<Vec<Pred>, AllocError> {
 }
 
 // Whether it holds of each edge, as a digit for each.
-fn digits(alloc: Global, pred: &Pred, graph: &Graph) -> Result<String, AllocError> {
+fn digits(alloc: Global, pred: &Pred, graph: &Graph) -> Result<String, Fail> {
     let mut text = String::new(alloc);
     for e in 0..graph.edge_count() {
         let digit = u8::from(holds(pred, graph, EdgeNo(e)));
-        let part = format!(in alloc; "{digit}")?;
-        text.push_str(part.as_str())?;
+        write!(text, "{digit}")?;
     }
+    text.push_str(" ")?;
     Ok(text)
 }
 
 // The digits of each of these predicates.
-fn digits_of_each(alloc: Global, preds: &[Pred], graph: &Graph) -> Result<String, AllocError> {
+fn digits_of_each(alloc: Global, preds: &[Pred], graph: &Graph) -> Result<String, Fail> {
     let mut text = String::new(alloc);
     for pred in preds {
-        let digits = digits(alloc, pred, graph)?;
-        text.push_str(digits.as_str())?;
-        text.push_str(" ")?;
+        text.push_str(digits(alloc, pred, graph)?.as_str())?;
     }
     Ok(text)
 }
 
 fn digits_of_all(alloc: Global, preds: &[Pred]) -> Result<String, Fail> {
     let graph = graph_of(alloc, NODES, EDGES)?;
-    Ok(digits_of_each(alloc, preds, &graph)?)
+    digits_of_each(alloc, preds, &graph)
 }
 
 #[test]
@@ -74,8 +73,7 @@ fn edges_of_each(alloc: Global, rules: &[ViewRule], graph: &Graph) -> Result<Str
     let mut text = String::new(alloc);
     for rule in rules {
         let edges = view_edges(alloc, rule, graph)?;
-        let part = format!(in alloc; "{:?}", edges.as_slice())?;
-        text.push_str(part.as_str())?;
+        write!(text, "{:?}", edges.as_slice())?;
     }
     Ok(text)
 }

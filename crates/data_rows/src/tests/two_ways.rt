@@ -6,6 +6,7 @@ use crate::tests::views::{Form, Part, distance, matrix_of, rule, rules};
 use edge_predicates::{Cmp, ViewRule};
 use graph_model::{Graph, ViewNo};
 use std::alloc::{AllocError, Global};
+use std::fmt::Write;
 use std::test::Fail;
 use view_matrix::Matrix;
 
@@ -16,15 +17,14 @@ const EDGES: &str =
     "src,dst,y:int,z:int,w:str,t:bool\n1,2,1,0,a,true\n1,2,,1,3,\n1,2,3,2,,false\n1,2,-2,,3,true\n1,2,5,4,c,\n1,2,3,5,d,true\n";
 
 // How many edges each view of the first half has, or 99 where its edges are not those of the same view of the second half.
-fn sizes_in_both(alloc: Global, matrix: &Matrix) -> Result<String, AllocError> {
+fn sizes_in_both(alloc: Global, matrix: &Matrix) -> Result<String, Fail> {
     let mut text = String::new(alloc);
     let half = matrix.views() / 2;
     for view in 0..half {
         let size = matrix.size(ViewNo(view));
         let is_same = distance(matrix, Some(view), half + view) == 0;
         let shown = if is_same { size } else { 99 };
-        let part = format!(in alloc; "{shown} ")?;
-        text.push_str(part.as_str())?;
+        write!(text, "{shown} ")?;
     }
     Ok(text)
 }
@@ -36,7 +36,7 @@ fn sizes_over(
     evaluated: &[ViewRule],
 ) -> Result<String, Fail> {
     let matrix = matrix_of(alloc, graph, told, evaluated)?;
-    Ok(sizes_in_both(alloc, &matrix)?)
+    sizes_in_both(alloc, &matrix)
 }
 
 // How many edges rules have, and the same rules in their other form.

@@ -110,13 +110,23 @@ impl Body {
     ) -> Result<Batch<(u32, u32)>, NoMemory> {
         match self {
             Body::Each => each_of(alloc, &Next, fed),
-            Body::Join => PairByPair.output(alloc, &each_of(alloc, &AsSides, fed)?),
-            Body::Reduce => {
-                let made = KeyByKey.output(alloc, &each_of(alloc, &AsPairs, fed)?)?;
-                leasts(alloc, &made)
-            }
+            Body::Join => joined(alloc, fed),
+            Body::Reduce => reduced(alloc, fed),
         }
     }
+}
+
+// The fixed pairs joined with the moving ones.
+fn joined(alloc: Global, fed: &Batch<Pairs>) -> Result<Batch<(u32, u32)>, NoMemory> {
+    let sides = each_of(alloc, &AsSides, fed)?;
+    PairByPair.output(alloc, &sides)
+}
+
+// The least value of each key.
+fn reduced(alloc: Global, fed: &Batch<Pairs>) -> Result<Batch<(u32, u32)>, NoMemory> {
+    let pairs = each_of(alloc, &AsPairs, fed)?;
+    let made = KeyByKey.output(alloc, &pairs)?;
+    leasts(alloc, &made)
 }
 
 // The least values alone, each once.

@@ -2,10 +2,10 @@
 
 ghost use Rattle.std.specs.Prelude.{◌==◌, Some, None, if◌then◌else◌};
 
-use super::runs::{Runs, thirty_are_right};
+use super::runs::{Runs, steps_of, thirty_are_right};
 use diff_join::{Join, Pairing};
 use flow_core::{NoCalls, Side};
-use flow_rows::{Draws, Grid, Reference, run};
+use flow_rows::{Draws, Grid, Reference};
 use std::alloc::Global;
 use std::test::Fail;
 use surge_outside::{List, NoMemory};
@@ -87,8 +87,8 @@ struct Joins;
 
 impl Runs for Joins {
     fn steps<T: Grid>(&self, alloc: Global, seed: u64) -> Result<Option<usize>, NoMemory> {
-        let mut join: TestJoin<T> = Join::new(alloc, Unequal);
-        run(alloc, &mut join, &PairByPair, seed, &mut NoCalls)
+        let join: TestJoin<T> = Join::new(alloc, Unequal);
+        steps_of(alloc, join, &PairByPair, seed)
     }
 }
 

@@ -2,9 +2,9 @@
 
 ghost use Rattle.std.specs.Prelude.{◌+◌, ◌%◌, ◌^◌, ◌==◌, ◌∷◌, [], not};
 
-use super::runs::{Runs, thirty_are_right};
+use super::runs::{Runs, steps_of, thirty_are_right};
 use flow_core::{Chain, Concat, Each, Expand, Filter, FlatMap, Fork, Keep, Map, NoCalls, Quiet};
-use flow_rows::{Draws, Grid, Reference, run};
+use flow_rows::{Draws, Grid, Reference};
 use std::alloc::Global;
 use std::test::Fail;
 use surge_outside::{List, NoMemory};
@@ -89,8 +89,8 @@ impl Runs for Linear {
         let not_two: Filter<NotTwo, u32, T, NoCalls> = Filter::new(alloc, NotTwo);
         let both = Fork::new(alloc, next, Quiet::new::<T, NoCalls>(not_two));
         let sum: Concat<u32, T, NoCalls> = Concat::new(alloc);
-        let mut flow = Chain::new(with_next, Chain::new(both, sum));
-        run(alloc, &mut flow, &RecordByRecord, seed, &mut NoCalls)
+        let flow = Chain::new(with_next, Chain::new(both, sum));
+        steps_of(alloc, flow, &RecordByRecord, seed)
     }
 }
 

@@ -6,12 +6,12 @@ ghost use Rattle.random_rows.specs.Logic.{without_round};
 use super::bodies::{AsPairs, AsSides, Body, Least, Next, Pairs};
 use super::joins::{Sides, TestJoin, Unequal};
 use super::rounds::{Rounds, once};
-use super::runs::{Runs, some_are_right};
+use super::runs::{Runs, some_are_right, steps_of};
 use diff_iterate::Iterate;
 use diff_join::Join;
 use diff_reduce::Reduce;
 use flow_core::{Chain, Each, Map, NoCalls, Operator};
-use flow_rows::{Grid, run};
+use flow_rows::Grid;
 use lattice_time::{Pair, Round, Time};
 use std::alloc::Global;
 use std::test::Fail;
@@ -75,6 +75,18 @@ fn loop_body<T: Time>(alloc: Global) -> LoopBody<T>
     Chain::new(inner, last)
 }
 
+// How many steps a run of a loop of three rounds of this new body takes from a seed, or None where something that it made
+// is wrong.
+fn loop_steps<
+    T: Grid,
+    B: Operator<Pair<T, Round>, NoCalls, Input = Pairs, Output = (u32, u32)> + Drop,
+>(alloc: Global, body: B, rounds: Rounds, seed: u64) -> Result<Option<usize>, NoMemory>
+    requires { IsFresh B.stands B.due B.seal B.spent ⟦<Pair<T, Round> as Time>⟧.least body }
+{
+    let looped: Iterate<B, T, NoCalls> = Iterate::new(alloc, body, 3);
+    steps_of(alloc, looped, &rounds, seed)
+}
+
 /// Loops of a function on each record.
 #[derive(Drop)]
 struct EachLoops;
@@ -82,10 +94,7 @@ struct EachLoops;
 impl Runs for EachLoops {
     fn steps<T: Grid>(&self, alloc: Global, seed: u64) -> Result<Option<usize>, NoMemory> {
         let each: EachBody<Pair<T, Round>> = Map::new(alloc, Next);
-        let mut looped: Iterate<EachBody<Pair<T, Round>>, T, NoCalls> = Iterate::new(
-            alloc, each, 3,
-        );
-        run(alloc, &mut looped, &once(Body::Each), seed, &mut NoCalls)
+        loop_steps::<T, _>(alloc, each, once(Body::Each), seed)
     }
 }
 
@@ -96,10 +105,7 @@ struct JoinLoops;
 impl Runs for JoinLoops {
     fn steps<T: Grid>(&self, alloc: Global, seed: u64) -> Result<Option<usize>, NoMemory> {
         let join = join_body::<Pair<T, Round>>(alloc);
-        let mut looped: Iterate<JoinBody<Pair<T, Round>>, T, NoCalls> = Iterate::new(
-            alloc, join, 3,
-        );
-        run(alloc, &mut looped, &once(Body::Join), seed, &mut NoCalls)
+        loop_steps::<T, _>(alloc, join, once(Body::Join), seed)
     }
 }
 
@@ -110,10 +116,7 @@ struct ReduceLoops;
 impl Runs for ReduceLoops {
     fn steps<T: Grid>(&self, alloc: Global, seed: u64) -> Result<Option<usize>, NoMemory> {
         let reduce = reduce_body::<Pair<T, Round>>(alloc);
-        let mut looped: Iterate<ReduceBody<Pair<T, Round>>, T, NoCalls> = Iterate::new(
-            alloc, reduce, 3,
-        );
-        run(alloc, &mut looped, &once(Body::Reduce), seed, &mut NoCalls)
+        loop_steps::<T, _>(alloc, reduce, once(Body::Reduce), seed)
     }
 }
 
@@ -124,14 +127,11 @@ struct LoopLoops;
 impl Runs for LoopLoops {
     fn steps<T: Grid>(&self, alloc: Global, seed: u64) -> Result<Option<usize>, NoMemory> {
         let body = loop_body::<Pair<T, Round>>(alloc);
-        let mut looped: Iterate<LoopBody<Pair<T, Round>>, T, NoCalls> = Iterate::new(
-            alloc, body, 3,
-        );
         let twice = Rounds {
             body: Body::Join,
             times: 2,
         };
-        run(alloc, &mut looped, &twice, seed, &mut NoCalls)
+        loop_steps::<T, _>(alloc, body, twice, seed)
     }
 }
 

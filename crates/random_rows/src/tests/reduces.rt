@@ -1,14 +1,16 @@
 //! Reduces at random times, alone and behind a join, against the same computed key by key from all that was fed.
 
 ghost use Rattle.std.specs.Prelude.{refl};
+ghost use Rattle.flow_core.specs.Runs.{IsFresh};
 ghost use Rattle.random_rows.specs.Logic.{least_and_count};
 
 use super::joins::{PairByPair, Sides, TestJoin, Unequal};
-use super::runs::{Runs, thirty_are_right};
+use super::runs::{Runs, steps_of, thirty_are_right};
 use diff_join::Join;
 use diff_reduce::{KeyLogic, Reduce};
-use flow_core::{Chain, NoCalls, Quiet};
+use flow_core::{Chain, NoCalls, Operator, Quiet};
 use flow_rows::{Draws, Grid, Reference, run};
+use lattice_time::Time;
 use std::alloc::Global;
 use std::test::Fail;
 use surge_outside::{List, NoMemory};
@@ -116,24 +118,42 @@ impl Reference for Both {
 /// The reduce that is tested.
 type TestReduce<T> = Reduce<LeastAndCount, T, NoCalls>;
 
-// How many steps a reduce takes from a seed, and how many keys it evaluates, or None where something that it made is
-// wrong.
-fn counted<T: Grid>(alloc: Global, seed: u64) -> Result<Option<(usize, u64)>, NoMemory> {
-    let mut reduce: TestReduce<T> = Reduce::new(alloc, LeastAndCount);
-    let Some(steps) = run(alloc, &mut reduce, &KeyByKey, seed, &mut NoCalls)? else {
-        return Ok(None);
-    };
-    Ok(Some((steps, reduce.evaluations())))
+/// An operator that tells how many keys it evaluated.
+trait Counting {
+    fn evaluated(&self) -> u64;
 }
 
-// The same of a reduce that is made quiet.
-fn counted_quietly<T: Grid>(alloc: Global, seed: u64) -> Result<Option<(usize, u64)>, NoMemory> {
-    let reduce: TestReduce<T> = Reduce::new(alloc, LeastAndCount);
-    let mut quiet = Quiet::new::<T, NoCalls>(reduce);
-    let Some(steps) = run(alloc, &mut quiet, &KeyByKey, seed, &mut NoCalls)? else {
+impl<T: Time> Counting for TestReduce<T> {
+    fn evaluated(&self) -> u64 {
+        self.evaluations()
+    }
+}
+
+impl<T: Time> Counting for Quiet<TestReduce<T>> {
+    fn evaluated(&self) -> u64 {
+        self.inner().evaluations()
+    }
+}
+
+// How many steps a new reduce takes from a seed, and how many keys it evaluates, or None where something that it made is
+// wrong.
+fn counted<
+    T: Grid,
+    O: Operator<T, NoCalls, Input = (u32, u32), Output = (u32, (u32, u64))> + Counting + Drop,
+>(alloc: Global, operator: O, seed: u64) -> Result<Option<(usize, u64)>, NoMemory>
+    requires { IsFresh O.stands O.due O.seal O.spent T.least operator }
+{
+    let mut operator = operator;
+    let Some(steps) = run(alloc, &mut operator, &KeyByKey, seed, &mut NoCalls)? else {
         return Ok(None);
     };
-    Ok(Some((steps, quiet.inner().evaluations())))
+    Ok(Some((steps, operator.evaluated())))
+}
+
+// The same of one that is made quiet.
+fn counted_quietly<T: Grid>(alloc: Global, seed: u64) -> Result<Option<(usize, u64)>, NoMemory> {
+    let reduce: TestReduce<T> = Reduce::new(alloc, LeastAndCount);
+    counted(alloc, Quiet::new::<T, NoCalls>(reduce), seed)
 }
 
 /// Runs of reduces, and of those that are made quiet, which take as many steps and evaluate as many keys.
@@ -142,7 +162,8 @@ struct Reduces;
 
 impl Runs for Reduces {
     fn steps<T: Grid>(&self, alloc: Global, seed: u64) -> Result<Option<usize>, NoMemory> {
-        let Some(counts) = counted::<T>(alloc, seed)? else {
+        let reduce: TestReduce<T> = Reduce::new(alloc, LeastAndCount);
+        let Some(counts) = counted(alloc, reduce, seed)? else {
             return Ok(None);
         };
         if counted_quietly::<T>(alloc, seed)? == Some(counts) {
@@ -161,8 +182,7 @@ impl Runs for JoinedReduces {
     fn steps<T: Grid>(&self, alloc: Global, seed: u64) -> Result<Option<usize>, NoMemory> {
         let join: TestJoin<T> = Join::new(alloc, Unequal);
         let reduce: TestReduce<T> = Reduce::new(alloc, LeastAndCount);
-        let mut chain = Chain::new(join, reduce);
-        run(alloc, &mut chain, &Both, seed, &mut NoCalls)
+        steps_of(alloc, Chain::new(join, reduce), &Both, seed)
     }
 }
 

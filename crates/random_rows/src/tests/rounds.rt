@@ -44,8 +44,7 @@ impl Reference for Rounds {
         push_at(&mut made, 0, &now)?;
         for round in 1..4 {
             let next = applied(alloc, self, fed, &now)?;
-            push_at(&mut made, round, &next)?;
-            push_at(&mut made, round, &now.negate()?)?;
+            push_change(&mut made, round, &now, &next)?;
             now = next;
         }
         Batch::from_entries(made)
@@ -111,4 +110,15 @@ fn push_at(
         made.push(((Round(round), *record), *weight))?;
     }
     Ok(())
+}
+
+// Adds a change from one collection to another at a round.
+fn push_change(
+    made: &mut List<((Round, (u32, u32)), Weight)>,
+    round: u32,
+    old: &Batch<(u32, u32)>,
+    new: &Batch<(u32, u32)>,
+) -> Result<(), NoMemory> {
+    push_at(made, round, new)?;
+    push_at(made, round, &old.negate()?)
 }

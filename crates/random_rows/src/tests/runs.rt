@@ -1,6 +1,9 @@
 //! Runs from one seed after the other, at each kind of time.
 
-use flow_rows::Grid;
+ghost use Rattle.flow_core.specs.Runs.{IsFresh};
+
+use flow_core::{NoCalls, Operator};
+use flow_rows::{Grid, Reference, run};
 use lattice_time::{Pair, Position, Round, Version};
 use std::alloc::Global;
 use surge_outside::NoMemory;
@@ -14,6 +17,18 @@ type Deep = Pair<Place, Round>;
 pub(super) trait Runs {
     /// How many steps a run of a new one takes from a seed, or None where something that it made is wrong.
     fn steps<T: Grid>(&self, alloc: Global, seed: u64) -> Result<Option<usize>, NoMemory>;
+}
+
+/// How many steps a run of this new operator takes from a seed, or None where something that it made is wrong.
+pub(super) fn steps_of<
+    T: Grid,
+    O: Operator<T, NoCalls> + Drop,
+    E: Reference<Input = O::Input, Output = O::Output>,
+>(alloc: Global, operator: O, reference: &E, seed: u64) -> Result<Option<usize>, NoMemory>
+    requires { IsFresh O.stands O.due O.seal O.spent T.least operator }
+{
+    let mut operator = operator;
+    run(alloc, &mut operator, reference, seed, &mut NoCalls)
 }
 
 // Whether the runs from the first seeds are right at times of a kind, and take so many steps at least, each and all.

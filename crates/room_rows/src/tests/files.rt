@@ -208,13 +208,18 @@ fn memory_files_give_pieces_and_fail_where_they_are_told(rt: HostRuntime) -> Res
     Ok(())
 }
 
+/// Whether the files are read whole, or a front of them.
+fn are_read_whole<F: Files>(alloc: Global, files: &mut F) -> Result<bool, Trouble> {
+    let whole = is_whole(alloc, files, "greeting", 100, b"hello")?;
+    let front = is_whole(alloc, files, "greeting", 4, b"hell")?;
+    let none = read_whole(alloc, files, "other", 100)?.is_none();
+    Ok(whole && front && none)
+}
+
 #[test]
 fn sure_files_are_read_whole(rt: HostRuntime) -> Result<(), Fail> {
-    let alloc = rt.alloc();
-    let mut files = SureFiles::new(two_files(alloc)?, 2);
-    assert!(rt; is_whole(alloc, &mut files, "greeting", 100, b"hello")?);
-    assert!(rt; is_whole(alloc, &mut files, "greeting", 4, b"hell")?);
-    assert!(rt; read_whole(alloc, &mut files, "other", 100)?.is_none());
+    let mut files = SureFiles::new(two_files(rt.alloc())?, 2);
+    assert!(rt; are_read_whole(rt.alloc(), &mut files)?);
     Ok(())
 }
 
@@ -253,14 +258,19 @@ fn refuses_others<F: Files>(alloc: Global, files: &mut F, name: &str) -> Result<
     Ok(are_so(files, &fetches))
 }
 
+/// Whether a file that holds `abcdefg` is read as it should be.
+fn is_read<F: Files>(alloc: Global, files: &mut F, name: &str) -> Result<bool, Fail> {
+    let pieces = gives_pieces(files, name);
+    let others = refuses_others(alloc, files, name)?;
+    let whole = is_whole(alloc, files, name, 100, b"abcdefg")?;
+    Ok(pieces && others && whole)
+}
+
 #[test]
 fn disk_files_read_what_is_there(rt: HostRuntime) -> Result<(), Fail> {
     let path = format!(in rt.alloc(); "/tmp/surge_outside-{}", process::id(rt.process()))?;
     fs::write(&rt, path.as_str(), "abcdefg")?;
-    let mut files = DiskFiles::new(rt);
-    assert!(rt; gives_pieces(&mut files, path.as_str()));
-    assert!(rt; refuses_others(rt.alloc(), &mut files, path.as_str())?);
-    assert!(rt; is_whole(rt.alloc(), &mut files, path.as_str(), 100, b"abcdefg")?);
+    assert!(rt; is_read(rt.alloc(), &mut DiskFiles::new(rt), path.as_str())?);
     fs::remove_file(&rt, path.as_str())?;
     Ok(())
 }

@@ -2,26 +2,24 @@
 
 ghost use Rattle.std.specs.Prelude.{◌≡◌, ◌<◌, ◌≤◌};
 ghost use Rattle.vertex_lang.specs.Leaves.{IsChecked};
-ghost use Rattle.flow_core.specs.Runs.{IsFresh};
 
-use crate::tests::grid::{Place, Placed, is_right};
-use crate::tests::kernel::side_by_side;
+use crate::tests::feeds::{Stand, at_places, at_positions};
+use crate::tests::flows::{Told, are_plain, flow_through};
+use crate::tests::kernel::{moves_made, step_through};
 use crate::tests::plain::Made;
-use crate::tests::positions::{driven, is_first_made};
 use crate::tests::programs::{Choice, program};
-use crate::tests::starts::{is_made_from, is_own_start};
-use flow_core::Operator;
+use crate::tests::starts::{is_own_start, started};
+use crate::tests::works::works;
+use flow_rows::sum_to;
 use graph_loader::load;
 use graph_model::Val::{self, Nil, Num};
 use graph_model::{Graph, NodeNo};
-use lattice_time::{Position, Round, Time};
+use lattice_time::{Position, Round};
 use std::alloc::Global;
 use std::marker::Brand;
 use std::sync::ledger::{Blank, Ledger};
 use std::test::Fail;
 use surge_outside::{NoMemory, Steps};
-use vertex_flow::{VertexFlow, evaluations, vertex_flow};
-use vertex_items::FlowInput;
 use vertex_lang::{Program, Updater};
 use weighted::Weight;
 
@@ -47,10 +45,8 @@ const VIEWS: [u32; 7] = [
 /// What a dataflow is held against.
 #[derive(Clone, Copy)]
 pub(crate) enum Against<'v> {
-    /// The plain runs of views, one behind the other, and their counted works.
-    Counts(&'v [u32]),
-    /// The kernel of rounds, over a first view and those behind it.
-    Kernel(u32, &'v [u32]),
+    /// The plain runs of views, one behind the other, their counted works, and the kernel of rounds.
+    Views(&'v [u32]),
     /// What is made of the view of the first edge, and how many nodes are evaluated.
     Made(&'v [(Made, Weight)], u64),
     /// The plain runs of the views of a grid of versions and positions.
@@ -61,58 +57,75 @@ pub(crate) enum Against<'v> {
     Starts(&'v [Val], &'v [(Made, Weight)]),
 }
 
-/// How many nodes a new dataflow should evaluate over the views at positions that it is held against, or None where
-/// something that it makes of them is wrong.
-fn count_of<U: Updater, O: Operator<Position, U, Input = FlowInput, Output = Made>>(
+/// Whether what was made of views one behind the other is as the kernel of rounds changes the values, and as many nodes
+/// were evaluated as it counts.
+fn is_stepped<U: Updater>(
     alloc: Global,
-    flow: &mut O,
     program: &Program,
     graph: &Graph,
     rounds: u32,
-    against: Against<'_>,
-    updater: &mut U,
-) -> Result<Option<u64>, NoMemory>
-    requires fresh { IsFresh O.stands O.due O.seal O.spent ⟦<Position as Time>⟧.least flow.old }
-    requires checked { IsChecked program.now graph.now }
-    requires some { 1 ≤ rounds }
-    requires limit { rounds ≤ 1_000_000 }
-{
-    match against {
-        Against::Counts(views) => driven(alloc, flow, program, graph, rounds, views, updater),
-        Against::Kernel(first, later) => {
-            side_by_side(alloc, flow, program, graph, rounds, first, later, updater)
-        }
-        Against::Made(want, count) => {
-            let made = is_first_made(alloc, flow, program, graph, want, updater)?;
-            Ok(if made { Some(count) } else { None })
-        }
-        _ => Ok(None),
-    }
-}
-
-/// Whether a dataflow over positions agrees with what it is held against.
-fn is_right_by_positions<U: Updater>(
-    alloc: Global,
-    graph: &Graph,
-    program: &Program,
-    rounds: u32,
-    against: Against<'_>,
+    views: &[u32],
+    told: &Told<Position>,
     updater: &mut U,
 ) -> Result<bool, NoMemory>
     requires checked { IsChecked program.now graph.now }
     requires some { 1 ≤ rounds }
     requires limit { rounds ≤ 1_000_000 }
 {
-    let mut flow: VertexFlow<'_, Position, U> = vertex_flow(alloc, graph, program, rounds);
-    let count = count_of(alloc, &mut flow, program, graph, rounds, against, updater)?;
-    Ok(count == Some(evaluations(&flow)))
+    let Some(changes) = moves_made(alloc, &told.made, views.len(), rounds)? else {
+        return Ok(false);
+    };
+    let stepped = step_through(alloc, program, graph, rounds, views, updater)?;
+    Ok(stepped.work == told.evaluated && changes.as_slice() == stepped.changes.as_slice())
 }
 
-/// Whether a dataflow makes the values of the views of a grid, at times of some type.
-fn is_right_at<T: Placed, U: Updater>(
+/// Whether what was made of views one behind the other is all that is known of them.
+fn is_known<U: Updater>(
     alloc: Global,
-    graph: &Graph,
     program: &Program,
+    graph: &Graph,
+    rounds: u32,
+    views: &[u32],
+    stands: &[Stand<Position>],
+    told: &Told<Position>,
+    updater: &mut U,
+) -> Result<bool, NoMemory>
+    requires checked { IsChecked program.now graph.now }
+    requires some { 1 ≤ rounds }
+    requires limit { rounds ≤ 1_000_000 }
+{
+    let plain = are_plain(alloc, program, graph, rounds, stands, &told.made, updater)?;
+    let counted = works(alloc, program, graph, rounds, views, updater)? == told.evaluated;
+    let stepped = is_stepped(alloc, program, graph, rounds, views, told, updater)?;
+    Ok(plain && counted && stepped)
+}
+
+/// Whether a dataflow agrees with all that is known of views one behind the other.
+fn is_right<U: Updater>(
+    alloc: Global,
+    program: &Program,
+    graph: &Graph,
+    rounds: u32,
+    views: &[u32],
+    updater: &mut U,
+) -> Result<bool, NoMemory>
+    requires checked { IsChecked program.now graph.now }
+    requires some { 1 ≤ rounds }
+    requires limit { rounds ≤ 1_000_000 }
+{
+    let stands = at_positions(alloc, views)?;
+    let stands = stands.as_slice();
+    let Some(told) = flow_through(alloc, program, graph, rounds, stands, true, updater)? else {
+        return Ok(false);
+    };
+    is_known(alloc, program, graph, rounds, views, stands, &told, updater)
+}
+
+/// Whether a dataflow makes the values of the views of a grid.
+fn is_right_on_a_grid<U: Updater>(
+    alloc: Global,
+    program: &Program,
+    graph: &Graph,
     rounds: u32,
     updater: &mut U,
 ) -> Result<bool, NoMemory>
@@ -120,15 +133,61 @@ fn is_right_at<T: Placed, U: Updater>(
     requires some { 1 ≤ rounds }
     requires limit { rounds ≤ 1_000_000 }
 {
-    let mut flow: VertexFlow<'_, T, U> = vertex_flow(alloc, graph, program, rounds);
-    is_right(alloc, &mut flow, program, graph, rounds, updater)
+    let stands = at_places(alloc)?;
+    let stands = stands.as_slice();
+    let Some(told) = flow_through(alloc, program, graph, rounds, stands, false, updater)? else {
+        return Ok(false);
+    };
+    are_plain(alloc, program, graph, rounds, stands, &told.made, updater)
+}
+
+/// Whether a dataflow makes this of the view of the first edge, and evaluates so many nodes.
+fn is_made<U: Updater>(
+    alloc: Global,
+    program: &Program,
+    graph: &Graph,
+    rounds: u32,
+    want: &[(Made, Weight)],
+    count: u64,
+    updater: &mut U,
+) -> Result<bool, NoMemory>
+    requires checked { IsChecked program.now graph.now }
+    requires some { 1 ≤ rounds }
+    requires limit { rounds ≤ 1_000_000 }
+{
+    let first: [Stand<Position>; 1] = [(Position(1), 1)];
+    let Some(told) = flow_through(alloc, program, graph, rounds, &first, false, updater)? else {
+        return Ok(false);
+    };
+    let made = sum_to(alloc, &told.made, Position(1))?;
+    Ok(made.as_slice() == want && told.evaluated == count)
+}
+
+/// Whether a dataflow makes this of starts and the view of the first edge.
+fn is_made_from<U: Updater>(
+    alloc: Global,
+    program: &Program,
+    graph: &Graph,
+    rounds: u32,
+    starts: &[Val],
+    want: &[(Made, Weight)],
+    updater: &mut U,
+) -> Result<bool, NoMemory>
+    requires checked { IsChecked program.now graph.now }
+    requires some { 1 ≤ rounds }
+    requires limit { rounds ≤ 1_000_000 }
+{
+    let Some(made) = started(alloc, program, graph, rounds, starts, 1, updater)? else {
+        return Ok(false);
+    };
+    Ok(made.as_slice() == want)
 }
 
 /// Whether a dataflow agrees with what it is held against.
 fn agrees_with<U: Updater>(
     alloc: Global,
-    graph: &Graph,
     program: &Program,
+    graph: &Graph,
     rounds: u32,
     against: Against<'_>,
     updater: &mut U,
@@ -138,23 +197,26 @@ fn agrees_with<U: Updater>(
     requires limit { rounds ≤ 1_000_000 }
 {
     match against {
-        Against::Grid => is_right_at::<Place, U>(alloc, graph, program, rounds, updater),
-        Against::OwnStarts(bits) => is_own_start(alloc, graph, program, rounds, bits, updater),
-        Against::Starts(starts, want) => {
-            is_made_from(alloc, graph, program, rounds, starts, want, updater)
+        Against::Views(views) => is_right(alloc, program, graph, rounds, views, updater),
+        Against::Made(want, count) => {
+            is_made(alloc, program, graph, rounds, want, count, updater)
         }
-        _ => is_right_by_positions(alloc, graph, program, rounds, against, updater),
+        Against::Grid => is_right_on_a_grid(alloc, program, graph, rounds, updater),
+        Against::OwnStarts(bits) => is_own_start(alloc, program, graph, rounds, bits, updater),
+        Against::Starts(starts, want) => {
+            is_made_from(alloc, program, graph, rounds, starts, want, updater)
+        }
     }
 }
 
 fn agrees_in<L: Ledger>(
     alloc: Global,
-    graph: &Graph,
     program: &Program,
+    graph: &Graph,
     rounds: u32,
     against: Against<'_>,
     blank: Blank,
-) -> Result<bool, NoMemory>
+) -> Result<bool, Fail>
     requires checked { IsChecked program.now graph.now }
     requires rounds { 1 ≤ rounds }
     requires limit { rounds ≤ 1_000_000 }
@@ -163,7 +225,8 @@ fn agrees_in<L: Ledger>(
     requires some { 0 < L.parts }
 {
     let mut steps = Steps::<L>::new(blank);
-    agrees_with(alloc, graph, program, rounds, against, &mut steps)
+    let agrees = agrees_with(alloc, program, graph, rounds, against, &mut steps)?;
+    Ok(agrees)
 }
 
 /// Whether the dataflow of a program over a graph agrees with what it is held against.
@@ -173,12 +236,12 @@ fn agrees_over(
     choice: Choice,
     rounds: u32,
     against: Against<'_>,
-) -> Result<bool, NoMemory>
+) -> Result<bool, Fail>
     requires some { 1 ≤ rounds }
     requires limit { rounds ≤ 1_000_000 }
 {
     let program = program(alloc, choice)?;
-    agrees_in::<Brand>(alloc, graph, &program, rounds, against, Blank::new(1))
+    agrees_in::<Brand>(alloc, &program, graph, rounds, against, Blank::new(1))
 }
 
 /// The same over the graph of two files.
@@ -194,89 +257,58 @@ pub(crate) fn agrees(
     requires limit { rounds ≤ 1_000_000 }
 {
     let graph = load(alloc, nodes, edges)?;
-    let agrees = agrees_over(alloc, &graph, choice, rounds, against)?;
-    Ok(agrees)
+    agrees_over(alloc, &graph, choice, rounds, against)
 }
 
-/// Whether a dataflow makes the values of each front of the views, and evaluates as many nodes as are counted.
-fn are_counted(alloc: Global, choice: Choice) -> Result<bool, Fail> {
+/// Whether a dataflow agrees with all that is known of the views, and of each number of the first of them.
+fn are_right(alloc: Global, choice: Choice) -> Result<bool, Fail> {
     for count in 0..VIEWS.len() + 1 {
-        let counts = Against::Counts(&VIEWS[..count]);
-        if !agrees(alloc, NODES, EDGES, choice, ROUNDS, counts)? {
+        let views = Against::Views(&VIEWS[..count]);
+        if !agrees(alloc, NODES, EDGES, choice, ROUNDS, views)? {
             return Ok(false);
         }
     }
     Ok(true)
-}
-
-/// Whether the kernel agrees on each front of the views.
-fn are_as_kernel(alloc: Global, choice: Choice) -> Result<bool, Fail> {
-    for count in 0..VIEWS.len() {
-        let kernel = Against::Kernel(VIEWS[0], &VIEWS[1..count + 1]);
-        if !agrees(alloc, NODES, EDGES, choice, ROUNDS, kernel)? {
-            return Ok(false);
-        }
-    }
-    Ok(true)
-}
-
-#[test]
-fn hops_as_by_the_kernel(rt: HostRuntime) -> Result<(), Fail> {
-    assert!(rt; are_as_kernel(rt.alloc(), Choice::Hops)?);
-    Ok(())
-}
-
-#[test]
-fn ranks_as_by_the_kernel(rt: HostRuntime) -> Result<(), Fail> {
-    assert!(rt; are_as_kernel(rt.alloc(), Choice::Ranks)?);
-    Ok(())
 }
 
 #[test]
 fn hops_over_views(rt: HostRuntime) -> Result<(), Fail> {
-    assert!(rt; are_counted(rt.alloc(), Choice::Hops)?);
+    assert!(rt; are_right(rt.alloc(), Choice::Hops)?);
     Ok(())
 }
 
 #[test]
 fn components_over_views(rt: HostRuntime) -> Result<(), Fail> {
-    assert!(rt; are_counted(rt.alloc(), Choice::Components)?);
+    assert!(rt; are_right(rt.alloc(), Choice::Components)?);
     Ok(())
 }
 
 #[test]
 fn ranks_over_views(rt: HostRuntime) -> Result<(), Fail> {
-    assert!(rt; are_counted(rt.alloc(), Choice::Ranks)?);
+    assert!(rt; are_right(rt.alloc(), Choice::Ranks)?);
+    Ok(())
+}
+
+/// Whether a program's dataflow over the nodes and edges agrees with what it is held against.
+fn agrees_on_all(alloc: Global, choice: Choice, against: Against<'_>) -> Result<bool, Fail> {
+    agrees(alloc, NODES, EDGES, choice, ROUNDS, against)
+}
+
+#[test]
+fn over_versions_and_positions(rt: HostRuntime) -> Result<(), Fail> {
+    assert!(rt; agrees_on_all(rt.alloc(), Choice::Hops, Against::Grid)?);
+    assert!(rt; agrees_on_all(rt.alloc(), Choice::Ranks, Against::Grid)?);
     Ok(())
 }
 
 #[test]
-fn hops_over_versions_and_positions(rt: HostRuntime) -> Result<(), Fail> {
-    assert!(rt;
-        agrees(
-            rt.alloc(),
-            NODES,
-            EDGES,
-            Choice::Hops,
-            ROUNDS,
-            Against::Grid
-        )?
-    );
-    Ok(())
-}
-
-#[test]
-fn ranks_over_versions_and_positions(rt: HostRuntime) -> Result<(), Fail> {
-    assert!(rt;
-        agrees(
-            rt.alloc(),
-            NODES,
-            EDGES,
-            Choice::Ranks,
-            ROUNDS,
-            Against::Grid
-        )?
-    );
+fn starts_of_plain_runs(rt: HostRuntime) -> Result<(), Fail> {
+    let few = Against::OwnStarts(0b101101101);
+    assert!(rt; agrees_on_all(rt.alloc(), Choice::Hops, few)?);
+    let all = Against::OwnStarts(0b111111111);
+    assert!(rt; agrees_on_all(rt.alloc(), Choice::Components, all)?);
+    let some = Against::OwnStarts(0b110010011);
+    assert!(rt; agrees_on_all(rt.alloc(), Choice::Ranks, some)?);
     Ok(())
 }
 
@@ -285,26 +317,33 @@ fn made_at(round: u32, node: u32, value: Val, weight: Weight) -> (Made, Weight) 
     ((Round(round), (NodeNo(node), value)), weight)
 }
 
-/// Two nodes.
-const TWO: &[u8] = b"id\n1\n2\n";
-
-/// The edge from the first to the second.
-const ONE_EDGE: &[u8] = b"src,dst\n1,2\n";
+/// What is made of two nodes in two rounds, where the first one keeps the number that it starts with, and the second one
+/// starts with none and ends with another number.
+fn along_one_arc(start: i64, end: i64) -> [(Made, Weight); 4] {
+    [
+        made_at(0, 0, Num(start), Weight(1)),
+        made_at(0, 1, Nil, Weight(1)),
+        made_at(1, 1, Nil, Weight(1).negate()),
+        made_at(1, 1, Num(end), Weight(1)),
+    ]
+}
 
 /// Whether hop counts from the first of two nodes, along the edge to the second, agree with what they are held against.
 fn hops_agree(alloc: Global, against: Against<'_>) -> Result<bool, Fail> {
-    agrees(alloc, TWO, ONE_EDGE, Choice::Hops, 2, against)
+    agrees(
+        alloc,
+        b"id\n1\n2\n",
+        b"src,dst\n1,2\n",
+        Choice::Hops,
+        2,
+        against,
+    )
 }
 
 /// The values that are made in two rounds, and how many nodes are evaluated.
 #[test]
 fn hops_along_one_arc(rt: HostRuntime) -> Result<(), Fail> {
-    let want = [
-        made_at(0, 0, Num(0), Weight(1)),
-        made_at(0, 1, Nil, Weight(1)),
-        made_at(1, 1, Nil, Weight(1).negate()),
-        made_at(1, 1, Num(1), Weight(1)),
-    ];
+    let want = along_one_arc(0, 1);
     assert!(rt; hops_agree(rt.alloc(), Against::Made(&want, 3))?);
     Ok(())
 }
@@ -312,24 +351,7 @@ fn hops_along_one_arc(rt: HostRuntime) -> Result<(), Fail> {
 /// The starts are kept, and the second node gets one more than the first starts with.
 #[test]
 fn hops_from_five(rt: HostRuntime) -> Result<(), Fail> {
-    let want = [
-        made_at(0, 0, Num(5), Weight(1)),
-        made_at(0, 1, Nil, Weight(1)),
-        made_at(1, 1, Nil, Weight(1).negate()),
-        made_at(1, 1, Num(6), Weight(1)),
-    ];
+    let want = along_one_arc(5, 6);
     assert!(rt; hops_agree(rt.alloc(), Against::Starts(&[Num(5), Nil], &want))?);
-    Ok(())
-}
-
-#[test]
-fn starts_of_plain_runs(rt: HostRuntime) -> Result<(), Fail> {
-    let alloc = rt.alloc();
-    let few = Against::OwnStarts(0b101101101);
-    assert!(rt; agrees(alloc, NODES, EDGES, Choice::Hops, ROUNDS, few)?);
-    let all = Against::OwnStarts(0b111111111);
-    assert!(rt; agrees(alloc, NODES, EDGES, Choice::Components, ROUNDS, all)?);
-    let some = Against::OwnStarts(0b110010011);
-    assert!(rt; agrees(alloc, NODES, EDGES, Choice::Ranks, ROUNDS, some)?);
     Ok(())
 }

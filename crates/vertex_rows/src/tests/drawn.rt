@@ -49,11 +49,14 @@ fn is_right_by_positions(alloc: Global, seed: u64) -> Result<bool, Fail> {
     let rounds = draws.draw(4) + 1;
     let edges = drawn_edges(alloc, &mut draws)?;
     let views = drawn_views(&mut draws);
-    let counts = Against::Counts(&views);
-    let counted = agrees(alloc, NODES, edges.as_slice(), choice, rounds, counts)?;
-    let kernel = Against::Kernel(views[0], &views[1..]);
-    let as_kernel = agrees(alloc, NODES, edges.as_slice(), choice, rounds, kernel)?;
-    Ok(counted && as_kernel)
+    agrees(
+        alloc,
+        NODES,
+        edges.as_slice(),
+        choice,
+        rounds,
+        Against::Views(&views),
+    )
 }
 
 /// Whether a drawn program makes the values of the views of a grid of versions and positions.

@@ -1,29 +1,39 @@
-//! Views stepped by a dataflow and by the kernel of rounds, side by side.
+//! Views stepped by the kernel of rounds, and the changes that a dataflow makes at positions.
 
 ghost use Rattle.std.specs.Prelude.{◌≡◌, ◌<◌, ◌≤◌, Bool, List, Some, length, All, IfOk, OnOk};
-ghost use Rattle.std.specs.Option.{IfSome};
 ghost use Rattle.vertex_lang.specs.Leaves.{IsChecked};
-ghost use Rattle.flow_core.specs.Runs.{IsFresh};
-ghost use Rattle.flow_rows.specs.Driven.{Drives};
-ghost use Rattle.arc_rows.specs.Views.{arcs_in};
+ghost use Rattle.arc_rows.specs.Views.{TellsAll, arcs_in};
+ghost use Rattle.arc_rows.specs.RowLists.{AreAlong};
 ghost use Rattle.round_kernel.specs.Histories.{IsHistory};
 ghost use Rattle.round_kernel.specs.Kernels.{IsKernel};
-ghost use Rattle.arc_rows.specs.Views.{TellsAll};
-ghost use Rattle.arc_rows.specs.RowLists.{AreAlong};
 
-use crate::tests::plain::{Made, through};
-use crate::tests::views::{arcs_at, delta};
+use crate::tests::plain::Made;
 use change_lists::{Change, History};
-use flow_core::Operator;
-use flow_rows::{take_seal, take_step};
+use flow_rows::Timed;
 use graph_model::{EdgeNo, Graph, NodeNo, Val};
-use lattice_time::{Position, Time};
+use lattice_time::Position;
 use round_kernel::{Kernel, Stepped, first_step, next_step};
 use std::alloc::Global;
 use surge_outside::{List, NoMemory};
-use vertex_items::FlowInput;
-use vertex_lang::{Arc, Program, Rounds, Updater};
+use vertex_lang::{Program, Rounds, Updater};
 use weighted::{Batch, Weight};
+
+/// The position of a view, and a change of its values after all rounds.
+type Moved = (u32, Change);
+
+/// How the values change from view to view, and the sum of the works of the views.
+#[derive(Drop)]
+pub(crate) struct Moves {
+    pub(crate) changes: List<Moved>,
+    pub(crate) work: u64,
+}
+
+/// What the kernel keeps of a view, and which edges are in it.
+#[derive(Drop)]
+struct Stood {
+    history: History,
+    flags: Vec<bool>,
+}
 
 /// Which edges are in a view: of the first 32 ones those whose bit is set.
 fn flags(alloc: Global, graph: &Graph, bits: u32) -> Result<Vec<bool>, NoMemory>
@@ -49,33 +59,54 @@ fn all_edges(alloc: Global, graph: &Graph) -> Result<Vec<EdgeNo>, NoMemory>
     Ok(edges)
 }
 
-/// Whether a change of values takes the values of some nodes to others, as a batch and as a list of the latter.
-fn is_change(sum: &Batch<(NodeNo, Val)>, change: &[Change]) -> bool {
-    let mut place = 0;
-    for ((node, value), weight) in sum.as_slice() {
-        if weight.0 == 1 {
-            let told = Change {
-                node: *node,
-                value: *value,
-            };
-            if change.get(place) != Some(&told) {
-                return false;
-            }
-            place += 1;
-        } else if weight.0 != Weight(1).negate().0 {
-            return false;
-        }
+/// Adds the changes of a view at a position.
+fn push_changes(
+    changes: &mut List<Moved>,
+    position: u32,
+    change: &[Change],
+) -> Result<(), NoMemory> {
+    for moved in change {
+        changes.push((position, *moved))?;
     }
-    place == change.len()
+    Ok(())
 }
 
-/// What the kernel keeps of a view, the view, and its work.
-#[derive(Drop)]
-struct Stood {
-    history: History,
-    flags: Vec<bool>,
-    arcs: List<Arc>,
-    work: u64,
+/// Adds the changes of a view at a position, and its work.
+fn add_view(moves: &mut Moves, position: u32, stepped: &Stepped) -> Result<(), NoMemory> {
+    push_changes(&mut moves.changes, position, stepped.change.as_slice())?;
+    moves.work = moves.work.wrapping_add(stepped.work);
+    Ok(())
+}
+
+/// Steps the first view, at position 1.
+fn first_view<U: Updater>(
+    alloc: Global,
+    program: &Program,
+    graph: &Graph,
+    kernel: &mut Kernel,
+    rounds: u32,
+    bits: u32,
+    moves: &mut Moves,
+    updater: &mut U,
+) -> Result<Stood, NoMemory>
+    requires checked { IsChecked program.now graph.now }
+    requires kernel { IsKernel graph.now kernel.old }
+    requires some { 1 ≤ rounds }
+    requires limit { rounds ≤ 1_000_000 }
+    ensures kernel { OnOk result (IsKernel graph.now kernel.new) }
+    ensures rows { kernel.new.rows ≡ kernel.old.rows }
+    ensures flags { IfOk result (λ s. length s.flags.items ≡ length graph.now.ends) }
+    ensures history { IfOk result (λ s. IsHistory U.answer program.now graph.now
+        (Some (arcs_in kernel.old.rows.by_head s.flags.items)) rounds s.history) }
+{
+    let flags = flags(alloc, graph, bits)?;
+    let limit = Rounds::Within(rounds);
+    let stepped = first_step(alloc, program, graph, kernel, &flags, limit, updater)?;
+    add_view(moves, 1, &stepped)?;
+    Ok(Stood {
+        history: stepped.history,
+        flags,
+    })
 }
 
 /// Steps a view behind another one by the kernel.
@@ -84,8 +115,7 @@ fn next_by_kernel<U: Updater>(
     program: &Program,
     graph: &Graph,
     kernel: &mut Kernel,
-    history: &History,
-    old: &[bool],
+    old: &Stood,
     new: &[bool],
     rounds: u32,
     updater: &mut U,
@@ -93,12 +123,12 @@ fn next_by_kernel<U: Updater>(
     requires checked { IsChecked program.now graph.now }
     requires kernel { IsKernel graph.now kernel.old }
     requires along { AreAlong program.now.along graph.now kernel.old.rows }
-    requires old { length old.now ≡ length graph.now.ends }
+    requires old { length old.now.flags.items ≡ length graph.now.ends }
     requires new { length new.now ≡ length graph.now.ends }
     requires some { 1 ≤ rounds }
     requires limit { rounds ≤ 1_000_000 }
     requires history { IsHistory U.answer program.now graph.now
-        (Some (arcs_in kernel.old.rows.by_head old.now)) rounds history.now }
+        (Some (arcs_in kernel.old.rows.by_head old.now.flags.items)) rounds old.now.history }
     ensures kernel { OnOk result (IsKernel graph.now kernel.new) }
     ensures rows { kernel.new.rows ≡ kernel.old.rows }
     ensures history { IfOk result (λ s. IsHistory U.answer program.now graph.now
@@ -110,8 +140,8 @@ fn next_by_kernel<U: Updater>(
         program,
         graph,
         kernel,
-        history,
-        old,
+        &old.history,
+        &old.flags,
         new,
         &edges,
         Rounds::Within(rounds),
@@ -119,44 +149,19 @@ fn next_by_kernel<U: Updater>(
     )
 }
 
-/// Steps the dataflow to a view, and answers whether it changes the values that the kernel changes.
-fn flow_agrees<U: Updater, O: Operator<Position, U, Input = FlowInput, Output = Made>>(
+/// Steps a view behind another one, at a position.
+fn later_view<U: Updater>(
     alloc: Global,
-    flow: &mut O,
-    times: &mut List<Position>,
-    seal: Position,
-    t: Position,
-    fed: &Batch<FlowInput>,
-    change: &[Change],
-    rounds: u32,
-    updater: &mut U,
-) -> Result<bool, NoMemory>
-    requires { Drives O.stands O.seal O.spent flow.old times.old seal }
-    ensures { OnOk result (Drives O.stands O.seal O.spent flow.new times.new seal) }
-{
-    let Some(made) = take_step(flow, times, seal, t, fed, updater)? else {
-        return Ok(false);
-    };
-    let sum = through(alloc, made.as_slice(), rounds)?;
-    Ok(is_change(&sum, change))
-}
-
-/// Steps a view behind another one by both, or None where they change other values.
-fn later_view<U: Updater, O: Operator<Position, U, Input = FlowInput, Output = Made>>(
-    alloc: Global,
-    flow: &mut O,
-    times: &mut List<Position>,
-    seal: Position,
-    t: Position,
     program: &Program,
     graph: &Graph,
     kernel: &mut Kernel,
     old: &Stood,
     rounds: u32,
     bits: u32,
+    position: u32,
+    moves: &mut Moves,
     updater: &mut U,
-) -> Result<Option<Stood>, NoMemory>
-    requires drives { Drives O.stands O.seal O.spent flow.old times.old seal }
+) -> Result<Stood, NoMemory>
     requires checked { IsChecked program.now graph.now }
     requires kernel { IsKernel graph.now kernel.old }
     requires along { AreAlong program.now.along graph.now kernel.old.rows }
@@ -167,45 +172,31 @@ fn later_view<U: Updater, O: Operator<Position, U, Input = FlowInput, Output = M
         (Some (arcs_in kernel.old.rows.by_head old.now.flags.items)) rounds old.now.history }
     ensures kernel { OnOk result (IsKernel graph.now kernel.new) }
     ensures rows { kernel.new.rows ≡ kernel.old.rows }
-    ensures drives { OnOk result (Drives O.stands O.seal O.spent flow.new times.new seal) }
-    ensures flags { IfOk result (λ r. IfSome r (λ s. length s.flags.items ≡ length graph.now.ends)) }
-    ensures history { IfOk result (λ r. IfSome r (λ s. IsHistory U.answer program.now graph.now
-        (Some (arcs_in kernel.old.rows.by_head s.flags.items)) rounds s.history)) }
+    ensures flags { IfOk result (λ s. length s.flags.items ≡ length graph.now.ends) }
+    ensures history { IfOk result (λ s. IsHistory U.answer program.now graph.now
+        (Some (arcs_in kernel.old.rows.by_head s.flags.items)) rounds s.history) }
 {
     let flags = flags(alloc, graph, bits)?;
-    let history = &old.history;
-    let stepped = next_by_kernel(
-        alloc, program, graph, kernel, history, &old.flags, &flags, rounds, updater,
-    )?;
-    let arcs = arcs_at(alloc, graph, program.along, bits)?;
-    let fed = delta(alloc, graph, Some(old.arcs.as_slice()), arcs.as_slice())?;
-    let change = stepped.change.as_slice();
-    if !flow_agrees(alloc, flow, times, seal, t, &fed, change, rounds, updater)? {
-        return Ok(None);
-    }
-    Ok(Some(Stood {
+    let stepped = next_by_kernel(alloc, program, graph, kernel, old, &flags, rounds, updater)?;
+    add_view(moves, position, &stepped)?;
+    Ok(Stood {
         history: stepped.history,
         flags,
-        arcs,
-        work: stepped.work,
-    }))
+    })
 }
 
 /// Steps the views behind the first one, at the positions from 2 on.
-fn later_views<U: Updater, O: Operator<Position, U, Input = FlowInput, Output = Made>>(
+fn later_views<U: Updater>(
     alloc: Global,
-    flow: &mut O,
-    times: &mut List<Position>,
-    seal: Position,
     program: &Program,
     graph: &Graph,
     kernel: &mut Kernel,
     first: Stood,
     rounds: u32,
     views: &[u32],
+    moves: &mut Moves,
     updater: &mut U,
-) -> Result<Option<u64>, NoMemory>
-    requires drives { Drives O.stands O.seal O.spent flow.old times.old seal }
+) -> Result<(), NoMemory>
     requires checked { IsChecked program.now graph.now }
     requires kernel { IsKernel graph.now kernel.old }
     requires along { AreAlong program.now.along graph.now kernel.old.rows }
@@ -215,116 +206,130 @@ fn later_views<U: Updater, O: Operator<Position, U, Input = FlowInput, Output = 
     requires history { IsHistory U.answer program.now graph.now
         (Some (arcs_in kernel.old.rows.by_head first.flags.items)) rounds first.history }
 {
-    let mut seal = seal;
-    let mut total = first.work;
     let mut old = first;
     let mut place: u32 = 2;
     for bits in views {
-        let t = Position(place);
-        let stood = later_view(
-            alloc, flow, times, seal, t, program, graph, kernel, &old, rounds, *bits, updater,
+        old = later_view(
+            alloc, program, graph, kernel, &old, rounds, *bits, place, moves, updater,
         )?;
-        let Some(new) = stood else {
-            return Ok(None);
-        };
-        seal = take_seal(flow, times, seal, t)?;
-        total = total.wrapping_add(new.work);
-        old = new;
         place = place.wrapping_add(1);
     }
-    Ok(Some(total))
+    Ok(())
 }
 
-/// Steps the first view by both, at position 1, or None where they change other values.
-fn first_view<U: Updater, O: Operator<Position, U, Input = FlowInput, Output = Made>>(
+/// Steps a view and those behind it by a kernel that is new.
+fn stepped_by<U: Updater>(
     alloc: Global,
-    flow: &mut O,
-    times: &mut List<Position>,
-    seal: Position,
     program: &Program,
     graph: &Graph,
     kernel: &mut Kernel,
     rounds: u32,
-    bits: u32,
-    updater: &mut U,
-) -> Result<Option<Stood>, NoMemory>
-    requires drives { Drives O.stands O.seal O.spent flow.old times.old seal }
-    requires checked { IsChecked program.now graph.now }
-    requires kernel { IsKernel graph.now kernel.old }
-    requires some { 1 ≤ rounds }
-    requires limit { rounds ≤ 1_000_000 }
-    ensures kernel { OnOk result (IsKernel graph.now kernel.new) }
-    ensures rows { kernel.new.rows ≡ kernel.old.rows }
-    ensures drives { OnOk result (Drives O.stands O.seal O.spent flow.new times.new seal) }
-    ensures flags { IfOk result (λ r. IfSome r (λ s. length s.flags.items ≡ length graph.now.ends)) }
-    ensures history { IfOk result (λ r. IfSome r (λ s. IsHistory U.answer program.now graph.now
-        (Some (arcs_in kernel.old.rows.by_head s.flags.items)) rounds s.history)) }
-{
-    let flags = flags(alloc, graph, bits)?;
-    let limit = Rounds::Within(rounds);
-    let stepped = first_step(alloc, program, graph, kernel, &flags, limit, updater)?;
-    let arcs = arcs_at(alloc, graph, program.along, bits)?;
-    let fed = delta(alloc, graph, None, arcs.as_slice())?;
-    let t = Position(1);
-    let change = stepped.change.as_slice();
-    if !flow_agrees(alloc, flow, times, seal, t, &fed, change, rounds, updater)? {
-        return Ok(None);
-    }
-    Ok(Some(Stood {
-        history: stepped.history,
-        flags,
-        arcs,
-        work: stepped.work,
-    }))
-}
-
-/// Steps a new dataflow of a program through a view and those behind it, and the kernel beside it: the sum of the works
-/// that the kernel tells, or None where the two change other values.
-pub(crate) fn side_by_side<U: Updater, O: Operator<Position, U, Input = FlowInput, Output = Made>>(
-    alloc: Global,
-    flow: &mut O,
-    program: &Program,
-    graph: &Graph,
-    rounds: u32,
     first: u32,
     later: &[u32],
     updater: &mut U,
-) -> Result<Option<u64>, NoMemory>
-    requires fresh { IsFresh O.stands O.due O.seal O.spent ⟦<Position as Time>⟧.least flow.old }
+) -> Result<Moves, NoMemory>
+    requires checked { IsChecked program.now graph.now }
+    requires kernel { IsKernel graph.now kernel.old }
+    requires along { AreAlong program.now.along graph.now kernel.old.rows }
+    requires some { 1 ≤ rounds }
+    requires limit { rounds ≤ 1_000_000 }
+{
+    let mut moves = Moves {
+        changes: List::new(alloc),
+        work: 0,
+    };
+    let all = &mut moves;
+    let stood = first_view(alloc, program, graph, kernel, rounds, first, all, updater)?;
+    later_views(
+        alloc, program, graph, kernel, stood, rounds, later, all, updater,
+    )?;
+    Ok(moves)
+}
+
+/// Steps views by the kernel, the first one from nothing and each other behind the one before it.
+pub(crate) fn step_through<U: Updater>(
+    alloc: Global,
+    program: &Program,
+    graph: &Graph,
+    rounds: u32,
+    views: &[u32],
+    updater: &mut U,
+) -> Result<Moves, NoMemory>
     requires checked { IsChecked program.now graph.now }
     requires some { 1 ≤ rounds }
     requires limit { rounds ≤ 1_000_000 }
 {
-    let mut kernel = Kernel::new(alloc, graph, program.along)?;
-    let mut times = List::new(alloc);
-    let least = Position::least();
-    let stood = first_view(
-        alloc,
-        flow,
-        &mut times,
-        least,
-        program,
-        graph,
-        &mut kernel,
-        rounds,
-        first,
-        updater,
-    )?;
-    let Some(stood) = stood else {
-        return Ok(None);
+    let [first, later @ ..] = views else {
+        return Ok(Moves {
+            changes: List::new(alloc),
+            work: 0,
+        });
     };
-    let seal = take_seal(flow, &times, least, Position(1))?;
-    later_views(
+    let mut kernel = Kernel::new(alloc, graph, program.along)?;
+    stepped_by(
         alloc,
-        flow,
-        &mut times,
-        seal,
         program,
         graph,
         &mut kernel,
-        stood,
         rounds,
+        *first,
         later,
         updater,
     )
+}
+
+/// What a dataflow made at a position, up to a round and without the rounds.
+fn through(
+    alloc: Global,
+    made: &List<Timed<Position, Made>>,
+    position: u32,
+    round: u32,
+) -> Result<Batch<(NodeNo, Val)>, NoMemory> {
+    let mut entries = List::new(alloc);
+    for (t, ((at, record), weight)) in made.as_slice() {
+        if t.0 == position && at.0 <= round {
+            entries.push((*record, *weight))?;
+        }
+    }
+    Batch::from_entries(entries)
+}
+
+/// Adds the values that come at a position: whether all others go, and each of both once.
+fn push_made(
+    changes: &mut List<Moved>,
+    position: u32,
+    sum: &Batch<(NodeNo, Val)>,
+) -> Result<bool, NoMemory> {
+    for ((node, value), weight) in sum.as_slice() {
+        if weight.0 == 1 {
+            let change = Change {
+                node: *node,
+                value: *value,
+            };
+            changes.push((position, change))?;
+        } else if weight.0 != Weight(1).negate().0 {
+            return Ok(false);
+        }
+    }
+    Ok(true)
+}
+
+/// How the values after so many rounds change at the first positions, as a dataflow made them, or None where some value
+/// doesn't come or go once.
+pub(crate) fn moves_made(
+    alloc: Global,
+    made: &List<Timed<Position, Made>>,
+    positions: usize,
+    rounds: u32,
+) -> Result<Option<List<Moved>>, NoMemory> {
+    let mut changes = List::new(alloc);
+    let mut position: u32 = 1;
+    for _ in 0..positions {
+        let sum = through(alloc, made, position, rounds)?;
+        if !push_made(&mut changes, position, &sum)? {
+            return Ok(None);
+        }
+        position = position.wrapping_add(1);
+    }
+    Ok(Some(changes))
 }

@@ -1,6 +1,5 @@
 use Rattle.std.proofs.Common.{◌≡◌, length}
 use Rattle.std.specs.Prelude.{Some}
-use Rattle.flow_rows.specs.Driven.{Drives}
 use Rattle.arc_rows.specs.Views.{arcs_in}
 use Rattle.round_kernel.specs.Histories.{IsHistory}
 use Rattle.round_kernel.specs.Kernels.{IsKernel}
@@ -10,7 +9,6 @@ abbrev pub invariant-loop-bits : goal.invariant-loop-bits
 invariant-loop-bits g l = record {
   kernel : IsKernel l.graph l.kernel;
   rows : l.kernel.rows ≡ l.initial.kernel.rows;
-  drives : Drives g.O.Operator.stands g.O.Operator.seal g.O.Operator.spent l.flow l.times l.seal;
   flags : length l.old.flags.items ≡ length l.graph.ends;
   history : IsHistory g.U.Updater.answer l.program l.graph
       (Some (arcs_in l.initial.kernel.rows.by_head l.old.flags.items)) l.rounds l.old.history;
