@@ -7,3 +7,4 @@ pub mod Applied
 pub mod Rows
 pub mod Tabled
 pub mod Walks
+pub mod Layers

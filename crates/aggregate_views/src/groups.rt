@@ -26,8 +26,8 @@ use weighted::Weight;
 /// The totals of all pairs of groups.
 type PairTotals = Reduce<EdgeTotals, Position, NoCalls>;
 
-/// The present edges of a graph by the groups of their ends. Edges come and go by lists of changes; a list costs what it
-/// changes and the pairs of groups that there are, not the edges that stay.
+/// The present edges of a graph by the groups of their ends. Edges come and go by lists of changes; over many of them a list
+/// costs what it changes, not the edges and pairs of groups that stay.
 #[derive(Drop)]
 pub struct Groups<'g> {
     alloc: Global,
@@ -102,8 +102,8 @@ impl<'g> Groups<'g> {
 
     /// Lets edges come (true) and go (false). Each change names an edge of the graph, which isn't present where it comes and
     /// is present where it goes: so no edge is named twice, unless it goes again. There are fewer than 2^31 calls before,
-    /// and the object isn't spent. It takes time in proportion to the changes, times their logarithm, and to the pairs of
-    /// groups that have an edge.
+    /// and the object isn't spent. Over many calls it takes time in proportion to the changes, times their logarithm and that
+    /// of the number of pairs of groups that have an edge; a single call may go through all these pairs.
     ///
     /// Errors: out of memory; the object is spent then, and may not be used any more.
     pub fn apply(&mut self, changes: &[(EdgeNo, bool)]) -> Result<(), NoMemory>
@@ -146,8 +146,9 @@ impl<'g> Groups<'g> {
         parts_are_ordered();
         pairs_are_ordered();
         totals_are_ordered();
-        let held = self.kept.held();
-        let rows = all_rows(self.alloc, self.keys.as_slice(), self.encoding.sum, held)?;
+        let held = self.kept.held()?;
+        let keys = self.keys.as_slice();
+        let rows = all_rows(self.alloc, keys, self.encoding.sum, held.as_slice())?;
         Ok(rows)
     }
 }

@@ -6,18 +6,19 @@ ghost use Rattle.weighted.specs.Batches.{IsBatch};
 ghost use Rattle.flow_core.specs.Runs.{IsFresh};
 ghost use Rattle.aggregate_views.specs.Keeping.{IsFed};
 
+use crate::held::Held;
 use flow_core::{NoCalls, Operator, lawful, settled};
 use lattice_time::{Position, Time};
 use std::alloc::Global;
 use surge_outside::NoMemory;
-use weighted::{Batch, Weight};
+use weighted::Batch;
 
 /// An operator, the position of its last step, the sum of what it made, and how many entries it was fed since its seal.
 #[derive(Drop)]
 pub(crate) struct Kept<O: Operator<Position, NoCalls>> {
     operator: O,
     at: u32,
-    held: Batch<O::Output>,
+    held: Held<O::Output>,
     unsealed: usize,
 }
 
@@ -32,7 +33,7 @@ impl<O: Operator<Position, NoCalls>> Kept<O> {
         Kept {
             operator,
             at: 0,
-            held: Batch::empty(alloc),
+            held: Held::new(alloc),
             unsealed: 0,
         }
     }
@@ -48,7 +49,7 @@ impl<O: Operator<Position, NoCalls>> Kept<O> {
         let t = Position(self.at + 1);
         let made = self.operator.step(t, delta, &mut NoCalls)?;
         settled(&self.operator);
-        self.held = self.held.add(&made)?;
+        self.held.add(made)?;
         self.at += 1;
         self.unsealed = self.unsealed.saturating_add(delta.len());
         self.rest()?;
@@ -72,11 +73,14 @@ impl<O: Operator<Position, NoCalls>> Kept<O> {
     }
 
     /// The sum of what was made, in normal form: the function of what was fed.
-    pub(crate) fn held(&self) -> &[(O::Output, Weight)]
-        ensures batch { IsBatch O.Output.cmp result.now }
-        ensures alike { (fed : List (O.Input × ℕ)) → IsFed O.stands O.due O.seal O.spent self.now.operator self.now.at self.now.held fed → Alike result.now (O.apply self.now.operator fed) }
+    ///
+    /// Errors: out of memory.
+    pub(crate) fn held(&self) -> Result<Batch<O::Output>, NoMemory>
+        ensures batch { IfOk result (λ held. IsBatch O.Output.cmp held) }
+        ensures alike { IfOk result (λ held. (fed : List (O.Input × ℕ)) → IsFed O.stands O.due O.seal O.spent self.now.operator self.now.at self.now.held fed → Alike held (O.apply self.now.operator fed)) }
     {
         lawful(&self.operator);
-        self.held.as_slice()
+        let sum = self.held.sum()?;
+        Ok(sum)
     }
 }

@@ -14,6 +14,7 @@ mod codes;
 mod encoding;
 mod group_key;
 mod groups;
+mod held;
 mod kept;
 mod laws;
 mod part;

@@ -1,6 +1,6 @@
 //! Edges of a few nodes, whose rows were worked out by hand.
 
-use crate::tests::courses::{Columns, course};
+use crate::tests::courses::course;
 use std::test::Fail;
 
 const CUSTOMERS: &[u8] =
@@ -13,24 +13,7 @@ const CALLS: &[u8] =
 // within Los Angeles.
 #[test]
 fn calls_by_city(rt: HostRuntime) -> Result<(), Fail> {
-    let columns = Columns {
-        group: 0,
-        sum: Some(0),
-    };
-    let text = course(
-        rt.alloc(),
-        CUSTOMERS,
-        CALLS,
-        columns,
-        4,
-        &[
-            (0, 0, true),
-            (1, 1, true),
-            (2, 2, true),
-            (3, 0, false),
-            (3, 1, false),
-        ],
-    )?;
+    let text = course(rt.alloc(), CUSTOMERS, CALLS, Some(0), 4, b"+a/+b/+c/-ab")?;
     assert_eq!(rt;
         text.as_str(),
         " 'Los Angeles','San Jose, CA',1,7\n 'Los Angeles','San Jose, CA',1,7 'San Jose, CA','Reno',1,12\n 'Los Angeles','Los Angeles',1,34 'Los Angeles','San Jose, CA',1,7 'San Jose, CA','Reno',1,12\n 'Los Angeles','Los Angeles',1,34\n"
@@ -38,56 +21,36 @@ fn calls_by_city(rt: HostRuntime) -> Result<(), Fail> {
     Ok(())
 }
 
-// An absent cell is a group of its own, and the least.
+const WITH_ABSENT: &[u8] = b"id,g:int\n1,\n2,5\n3,-1\n";
+
+const BETWEEN_THEM: &[u8] = b"src,dst\n1,2\n1,2\n2,1\n3,3\n3,1\n";
+
+// An absent cell is a group of its own, and the least. Where no numbers are summed, each sum is 0.
 #[test]
 fn absent_cells_are_a_group(rt: HostRuntime) -> Result<(), Fail> {
-    let columns = Columns {
-        group: 0,
-        sum: None,
-    };
-    let text = course(
-        rt.alloc(),
-        b"id,g:int\n1,\n2,5\n3,-1\n",
-        b"src,dst\n1,2\n1,2\n2,1\n3,3\n3,1\n",
-        columns,
-        2,
-        &[
-            (0, 0, true),
-            (0, 1, true),
-            (1, 2, true),
-            (1, 3, true),
-            (1, 4, true),
-        ],
-    )?;
-    assert_eq!(rt; text.as_str(), " -,5,2\n -,5,2 -1,-,1 -1,-1,1 5,-,1\n");
+    let text = course(rt.alloc(), WITH_ABSENT, BETWEEN_THEM, None, 2, b"+ab/+cde")?;
+    assert_eq!(rt;
+        text.as_str(),
+        " -,5,2,0\n -,5,2,0 -1,-,1,0 -1,-1,1,0 5,-,1,0\n"
+    );
     Ok(())
 }
+
+const TRUTHS: &[u8] = b"id,b:bool\n1,true\n2,false\n3,\n";
+
+const GREAT_NUMBERS: &[u8] =
+    b"src,dst,w:int\n1,2,9223372036854775807\n1,2,9223372036854775807\n1,2,9223372036854775807\n2,1,-9223372036854775807\n2,1,-9223372036854775807\n2,1,-9223372036854775807\n3,1,\n3,1,4\n2,2,0\n";
 
 // False comes before true; the sums pass the range of 64 bits on both sides; an absent number adds nothing.
 #[test]
 fn sums_beyond_64_bits(rt: HostRuntime) -> Result<(), Fail> {
-    let columns = Columns {
-        group: 0,
-        sum: Some(0),
-    };
     let text = course(
         rt.alloc(),
-        b"id,b:bool\n1,true\n2,false\n3,\n",
-        b"src,dst,w:int\n1,2,9223372036854775807\n1,2,9223372036854775807\n1,2,9223372036854775807\n2,1,-9223372036854775807\n2,1,-9223372036854775807\n2,1,-9223372036854775807\n3,1,\n3,1,4\n2,2,0\n",
-        columns,
+        TRUTHS,
+        GREAT_NUMBERS,
+        Some(0),
         2,
-        &[
-            (0, 0, true),
-            (0, 1, true),
-            (0, 2, true),
-            (0, 3, true),
-            (0, 4, true),
-            (0, 5, true),
-            (0, 6, true),
-            (0, 8, true),
-            (1, 7, true),
-            (1, 0, false),
-        ],
+        b"+abcdefgi/+h-a",
     )?;
     assert_eq!(rt;
         text.as_str(),
@@ -96,34 +59,15 @@ fn sums_beyond_64_bits(rt: HostRuntime) -> Result<(), Fail> {
     Ok(())
 }
 
+const TWO: &[u8] = b"id,g:str\n1,b\n2,a\n";
+
+const TO_AND_FRO: &[u8] = b"src,dst,w:int\n1,2,3\n1,2,-4\n2,1,5\n";
+
 // Edges come, go and come again; a list may be empty, and let one edge come and go; what is no change is left out.
 #[test]
 fn edges_come_again(rt: HostRuntime) -> Result<(), Fail> {
-    let columns = Columns {
-        group: 0,
-        sum: Some(0),
-    };
-    let text = course(
-        rt.alloc(),
-        b"id,g:str\n1,b\n2,a\n",
-        b"src,dst,w:int\n1,2,3\n1,2,-4\n2,1,5\n",
-        columns,
-        8,
-        &[
-            (0, 0, true),
-            (0, 1, true),
-            (1, 0, false),
-            (1, 1, false),
-            (3, 2, true),
-            (3, 2, false),
-            (4, 1, true),
-            (5, 1, true),
-            (6, 3, true),
-            (7, 1, false),
-            (7, 2, true),
-            (7, 1, true),
-        ],
-    )?;
+    let turns = b"+ab/-ab//+c-c/+b/+b/+d/-b+cb";
+    let text = course(rt.alloc(), TWO, TO_AND_FRO, Some(0), 8, turns)?;
     assert_eq!(rt;
         text.as_str(),
         " 'b','a',2,-1\n\n\n\n 'b','a',1,-4\nno changes 'b','a',1,-4\nno changes 'b','a',1,-4\n 'a','b',1,5 'b','a',1,-4\n"

@@ -4,7 +4,7 @@ ghost use Rattle.std.specs.Prelude.{◌≡◌, ◌+◌, ◌<◌, ◌≤◌, ◌^
 ghost use Rattle.aggregate_views.specs.Changes.{changed, AreChanges};
 ghost use Rattle.aggregate_views.specs.Rows.{HasSumColumn};
 
-use crate::tests::texts::rows_text;
+use crate::tests::texts::push_rows;
 use aggregate_views::Groups;
 use graph_loader::load;
 use graph_model::{EdgeNo, Graph};
@@ -12,28 +12,29 @@ use std::alloc::Global;
 use std::test::Fail;
 use surge_outside::NoMemory;
 
-/// Which columns the groups and the numbers are in.
-#[derive(Clone, Copy)]
-pub(crate) struct Columns {
-    pub(crate) group: usize,
-    pub(crate) sum: Option<usize>,
-}
-
-/// A change: which list it stands in, from 0, the place of an edge, and whether it comes.
-pub(crate) type Turn = (u32, u32, bool);
-
 /// The graph in these files. Nothing is said of it, so that no proof reads its files.
 pub(crate) fn graph_in(alloc: Global, nodes: &[u8], edges: &[u8]) -> Result<Graph, Fail> {
     let graph = load(alloc, nodes, edges)?;
     Ok(graph)
 }
 
-// The changes of a list, as the groups take them.
-fn changes_of(alloc: Global, turns: &[Turn], list: u32) -> Result<Vec<(EdgeNo, bool)>, NoMemory> {
+/// The changes of a list, from 0, in a text of lists with a stroke between each two: a letter for each edge that turns, `a`
+/// for the first one, behind a plus where it comes and a minus where it goes.
+pub(crate) fn changes_of(
+    alloc: Global,
+    turns: &[u8],
+    list: u32,
+) -> Result<Vec<(EdgeNo, bool)>, NoMemory> {
     let mut changes = Vec::new(alloc);
-    for (place, e, comes) in turns {
-        if *place == list {
-            changes.push((EdgeNo(*e), *comes))?;
+    let mut place = 0u32;
+    let mut comes = true;
+    for byte in turns {
+        if *byte == b'/' {
+            place = place.wrapping_add(1);
+        } else if *byte == b'+' || *byte == b'-' {
+            comes = *byte == b'+';
+        } else if place == list {
+            changes.push((EdgeNo(u32::from(byte.wrapping_sub(b'a'))), comes))?;
         }
     }
     Ok(changes)
@@ -84,15 +85,15 @@ fn take_in(
 fn course_over(
     alloc: Global,
     graph: &Graph,
-    columns: Columns,
+    sum: Option<usize>,
     lists: u32,
-    turns: &[Turn],
+    turns: &[u8],
 ) -> Result<String, NoMemory>
-    requires group { columns.group < length graph.now.node_columns }
-    requires sum { HasSumColumn graph.now columns.sum }
+    requires group { 0 < length graph.now.node_columns }
+    requires sum { HasSumColumn graph.now sum }
     requires few { lists ≤ 1_000 }
 {
-    let mut groups = Groups::new(alloc, graph, columns.group, columns.sum)?;
+    let mut groups = Groups::new(alloc, graph, 0, sum)?;
     let mut present = vec![in alloc; false; graph.edge_count() as usize]?;
     let mut text = String::new(alloc);
     for list in 0..lists {
@@ -100,30 +101,31 @@ fn course_over(
         if !take_in(alloc, &mut groups, &mut present, changes.as_slice())? {
             text.push_str("no changes")?;
         }
-        text.push_str(rows_text(alloc, &groups, columns.sum.is_some())?.as_str())?;
+        push_rows(alloc, &mut text, &groups)?;
     }
     Ok(text)
 }
 
-/// The rows after each of so many lists of changes over the graph in these files, one list a line.
+/// The rows after each of so many lists of changes over the graph in these files, one list a line, by the first column of
+/// the nodes.
 pub(crate) fn course(
     alloc: Global,
     nodes: &[u8],
     edges: &[u8],
-    columns: Columns,
+    sum: Option<usize>,
     lists: u32,
-    turns: &[Turn],
+    turns: &[u8],
 ) -> Result<String, Fail>
     requires few { lists ≤ 1_000 }
 {
     let graph = graph_in(alloc, nodes, edges)?;
-    let known = match columns.sum {
+    let known = match sum {
         None => true,
         Some(sum) => sum < graph.edge_columns().len(),
     };
-    if columns.group >= graph.node_columns().len() || !known {
+    if graph.node_columns().len() == 0 || !known {
         return Ok(String::from_str(alloc, "no such column")?);
     }
-    let text = course_over(alloc, &graph, columns, lists, turns)?;
+    let text = course_over(alloc, &graph, sum, lists, turns)?;
     Ok(text)
 }

@@ -2,9 +2,12 @@
 
 ghost use Rattle.std.specs.Prelude.{◌<◌};
 
-use crate::tests::courses::{Columns, Turn, course};
+use crate::tests::courses::{changes_of, course};
+use crate::tests::texts::push_row;
+use aggregate_views::{Cell, GroupRow};
 use std::alloc::{AllocError, Global};
 use std::test::Fail;
+use surge_outside::NoMemory;
 
 const EDGES: u32 = 24;
 
@@ -41,17 +44,35 @@ fn place_of(node: u32) -> u32 {
     }
 }
 
-// The group at a place, as it stands in rows.
-fn name_of(place: u32) -> &'static str {
+// The group at a place.
+fn cell_at(place: u32) -> Cell {
     match place {
-        0 => "-",
-        1 => "-5",
-        2 => "0",
-        _ => "7",
+        0 => Cell::Absent,
+        1 => Cell::Int(-5),
+        2 => Cell::Int(0),
+        _ => Cell::Int(7),
     }
 }
 
-// Draws the edges, and writes them into a file; each fourth, or so, has no number.
+// Draws an edge, and writes it into a file; each fourth, or so, has no number.
+fn drawn_edge(alloc: Global, state: &mut u64, file: &mut String) -> Result<DrawnEdge, AllocError> {
+    let from = draw(state, 6);
+    let to = draw(state, 6);
+    let number = i64::from(draw(state, 200)) - 100;
+    let has_number = draw(state, 4) > 0;
+    if has_number {
+        file.push_str(format!(in alloc; "{from},{to},{number}\n")?.as_str())?;
+    } else {
+        file.push_str(format!(in alloc; "{from},{to},\n")?.as_str())?;
+    }
+    Ok(DrawnEdge {
+        from: place_of(from),
+        to: place_of(to),
+        number: if has_number { number } else { 0 },
+    })
+}
+
+// Draws the edges, and writes them into a file.
 fn drawn_edges(
     alloc: Global,
     state: &mut u64,
@@ -60,53 +81,36 @@ fn drawn_edges(
     let mut edges = Vec::new(alloc);
     file.push_str("src,dst,w:int\n")?;
     for _ in 0..EDGES {
-        let from = draw(state, 6);
-        let to = draw(state, 6);
-        let number = i64::from(draw(state, 200)) - 100;
-        let has_number = draw(state, 4) > 0;
-        file.push_str(format!(in alloc; "{from},{to},")?.as_str())?;
-        if has_number {
-            file.push_str(format!(in alloc; "{number}")?.as_str())?;
-        }
-        file.push_str("\n")?;
-        edges.push(DrawnEdge {
-            from: place_of(from),
-            to: place_of(to),
-            number: if has_number { number } else { 0 },
-        })?;
+        edges.push(drawn_edge(alloc, state, file)?)?;
     }
     Ok(edges)
 }
 
-// Draws lists of changes, in each of which an edge may turn any number of times.
-fn drawn_turns(alloc: Global, state: &mut u64) -> Result<Vec<Turn>, AllocError> {
-    let mut present = vec![in alloc; false; EDGES as usize]?;
-    let mut turns = Vec::new(alloc);
-    for list in 0..LISTS {
-        for _ in 0..draw(state, 8) {
-            let e = draw(state, EDGES);
-            let comes = match present.get(e as usize) {
-                Some(is_present) => !*is_present,
-                None => true,
-            };
-            if let Some(is_present) = present.get_mut(e as usize) {
-                *is_present = comes;
-            }
-            turns.push((list, e, comes))?;
+// Lets the other come of two, an edge that is there and one that isn't; says whether it is there then.
+fn turned(present: &mut [bool], e: usize) -> bool {
+    match present.get_mut(e) {
+        Some(is_present) => {
+            *is_present = !*is_present;
+            *is_present
         }
+        None => false,
     }
-    Ok(turns)
 }
 
-// Lets the edges of a list come and go.
-fn turn(present: &mut [bool], turns: &[Turn], list: u32) {
-    for (place, e, comes) in turns {
-        if *place == list {
-            if let Some(is_present) = present.get_mut(*e as usize) {
-                *is_present = *comes;
-            }
+// Draws lists of changes, in each of which an edge may turn any number of times.
+fn drawn_turns(alloc: Global, state: &mut u64) -> Result<Vec<u8>, AllocError> {
+    let mut present = vec![in alloc; false; EDGES as usize]?;
+    let mut turns = Vec::new(alloc);
+    for _ in 0..LISTS {
+        for _ in 0..draw(state, 8) {
+            let e = draw(state, EDGES);
+            let comes = turned(present.as_mut_slice(), e as usize);
+            turns.push(if comes { b'+' } else { b'-' })?;
+            turns.push(b'a' + e as u8)?;
         }
+        turns.push(b'/')?;
     }
+    Ok(turns)
 }
 
 // How many of the present edges go between two groups, and the sum of their numbers.
@@ -122,29 +126,37 @@ fn counted(edges: &[DrawnEdge], present: &[bool], from: u32, to: u32) -> (u64, i
     (count, sum)
 }
 
-// The rows behind each list, counted anew.
-fn counted_course(
+// Adds the rows of the present edges, counted anew.
+fn push_counted(
     alloc: Global,
+    text: &mut String,
     edges: &[DrawnEdge],
-    turns: &[Turn],
-) -> Result<String, AllocError> {
+    present: &[bool],
+) -> Result<(), AllocError> {
+    for pair in 0..16u32 {
+        let (count, sum) = counted(edges, present, pair / 4, pair % 4);
+        if count > 0 {
+            let row = GroupRow {
+                from: cell_at(pair / 4),
+                to: cell_at(pair % 4),
+                count,
+                sum: i128::from(sum),
+            };
+            push_row(alloc, text, &row)?;
+        }
+    }
+    text.push_str("\n")
+}
+
+// The rows behind each list, counted anew.
+fn counted_course(alloc: Global, edges: &[DrawnEdge], turns: &[u8]) -> Result<String, NoMemory> {
     let mut present = vec![in alloc; false; EDGES as usize]?;
     let mut text = String::new(alloc);
     for list in 0..LISTS {
-        turn(present.as_mut_slice(), turns, list);
-        for pair in 0..16u32 {
-            let from = pair / 4;
-            let to = pair % 4;
-            let (count, sum) = counted(edges, present.as_slice(), from, to);
-            if count > 0 {
-                text.push_str(format!(in alloc;
-                    " {},{},{count},{sum}",
-                    name_of(from),
-                    name_of(to)
-                )?.as_str())?;
-            }
+        for (e, _) in changes_of(alloc, turns, list)?.as_slice() {
+            let _is_there = turned(present.as_mut_slice(), e.0 as usize);
         }
-        text.push_str("\n")?;
+        push_counted(alloc, &mut text, edges, present.as_slice())?;
     }
     Ok(text)
 }
@@ -155,15 +167,11 @@ fn agrees(alloc: Global, seed: u64) -> Result<bool, Fail> {
     let mut file = String::new(alloc);
     let edges = drawn_edges(alloc, &mut state, &mut file)?;
     let turns = drawn_turns(alloc, &mut state)?;
-    let columns = Columns {
-        group: 0,
-        sum: Some(0),
-    };
     let text = course(
         alloc,
         NODES,
         file.as_bytes(),
-        columns,
+        Some(0),
         LISTS,
         turns.as_slice(),
     )?;

@@ -16,25 +16,26 @@ fn cell_text(alloc: Global, cell: &Cell) -> Result<String, AllocError> {
     }
 }
 
-fn row_text(alloc: Global, row: &GroupRow, sums: bool) -> Result<String, AllocError> {
+/// Adds the text of a row.
+pub(crate) fn push_row(alloc: Global, text: &mut String, row: &GroupRow) -> Result<(), AllocError> {
     let from = cell_text(alloc, &row.from)?;
     let to = cell_text(alloc, &row.to)?;
-    if sums {
-        format!(in alloc; " {from},{to},{},{}", row.count, row.sum)
-    } else {
-        format!(in alloc; " {from},{to},{}", row.count)
-    }
+    let row = format!(in alloc; " {from},{to},{},{}", row.count, row.sum)?;
+    text.push_str(row.as_str())
 }
 
-/// The rows of the present edges in one line, with the sums where there are any.
-pub(crate) fn rows_text(alloc: Global, groups: &Groups<'_>, sums: bool) -> Result<String, NoMemory>
+/// Adds the rows of the present edges, and the end of the line.
+pub(crate) fn push_rows(
+    alloc: Global,
+    text: &mut String,
+    groups: &Groups<'_>,
+) -> Result<(), NoMemory>
     requires { groups.now.spent ≡ false }
 {
     let rows = groups.rows()?;
-    let mut text = String::new(alloc);
     for row in rows.as_slice() {
-        text.push_str(row_text(alloc, row, sums)?.as_str())?;
+        push_row(alloc, text, row)?;
     }
     text.push_str("\n")?;
-    Ok(text)
+    Ok(())
 }

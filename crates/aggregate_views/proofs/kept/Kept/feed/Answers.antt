@@ -17,7 +17,7 @@ pub step-requires-clause-seal : goal.step-requires-clause-seal
 step-requires-clause-seal g c = is_le _ _ (omega (arith, c.requires.fed.1.low))
 
 pub rest-requires : goal.rest-requires
-rest-requires g c = (c.requires.fed.0 ++ c.args.delta.now, fed_after g.O.Operator.stands g.O.Operator.due g.O.Operator.seal g.O.Operator.spent c.args.self.now.operator c.step.new.self c.args.self.now.at c.args.self.now.held c.in_ok-made.made c.in_ok-self.field-0 c.requires.fed.0 c.args.delta.now (record { 0 = c.args.self.now.at + 1 }) (g.O.Operator.charge c.step.new.self - g.O.Operator.charge c.args.self.now.operator) c.in_ok-made.ensures.runs c.settled.ensures.due c.in_ok-made.ensures.seal c.in_ok-made.ensures.live refl c.in_ok-self.ensures.alike c.requires.fed.1)
+rest-requires g c = (c.requires.fed.0 ++ c.args.delta.now, fed_after g.O.Operator.stands g.O.Operator.due g.O.Operator.seal g.O.Operator.spent c.args.self.now.operator c.step.new.self c.args.self.now.at c.args.self.now.held c.in_ok-made.made c.add.new.self c.requires.fed.0 c.args.delta.now (record { 0 = c.args.self.now.at + 1 }) (g.O.Operator.charge c.step.new.self - g.O.Operator.charge c.args.self.now.operator) c.in_ok-made.ensures.runs c.settled.ensures.due c.in_ok-made.ensures.seal c.in_ok-made.ensures.live refl c.in_ok-add.ensures c.requires.fed.1)
 
 pub returns-clause-fed : goal.returns-clause-fed
-returns-clause-fed g c = λ fed f. c.in_ok-rest.ensures.fed (fed ++ c.args.delta.now) (fed_after g.O.Operator.stands g.O.Operator.due g.O.Operator.seal g.O.Operator.spent c.args.self.now.operator c.step.new.self c.args.self.now.at c.args.self.now.held c.in_ok-made.made c.in_ok-self.field-0 fed c.args.delta.now (record { 0 = c.args.self.now.at + 1 }) (g.O.Operator.charge c.step.new.self - g.O.Operator.charge c.args.self.now.operator) c.in_ok-made.ensures.runs c.settled.ensures.due c.in_ok-made.ensures.seal c.in_ok-made.ensures.live refl c.in_ok-self.ensures.alike f)
+returns-clause-fed g c = λ fed f. c.in_ok-rest.ensures.fed (fed ++ c.args.delta.now) (fed_after g.O.Operator.stands g.O.Operator.due g.O.Operator.seal g.O.Operator.spent c.args.self.now.operator c.step.new.self c.args.self.now.at c.args.self.now.held c.in_ok-made.made c.add.new.self fed c.args.delta.now (record { 0 = c.args.self.now.at + 1 }) (g.O.Operator.charge c.step.new.self - g.O.Operator.charge c.args.self.now.operator) c.in_ok-made.ensures.runs c.settled.ensures.due c.in_ok-made.ensures.seal c.in_ok-made.ensures.live refl c.in_ok-add.ensures f)

@@ -9,7 +9,7 @@ pub returns-clause-fed : goal.returns-clause-fed
 returns-clause-fed g c = record {
   run = empty_run;
   is_run = c.requires.is_new;
-  to = subst (λ h. IsRunTo 0 [] h empty_run) (sym c.empty.ensures) not_stepped;
+  to = subst (λ h. IsRunTo 0 [] h empty_run) (sym c.new.ensures) not_stepped;
   nothing_due = c.requires.nothing_due;
   low = subst (λ p. p.0 ≤ 0) (sym c.requires.at_least) (omega arith);
   live = c.requires.live;
