@@ -181,7 +181,7 @@ module _ (answer : Answer) (m : MatrixData) (e : Engine) (segments : Vec Segment
         in_order = rw is (in_order e.split e d.anew v ready);
         each = rw is (all_put v (SegmentStands task) (stands_more v task) (stands_fresh v task) d.anew ss old.each);
         holds = rw is (holds_put task e.results v d.anew ss old.each old.holds);
-        only = λ u none. old.only u (sym (ap (λ (xs : List Segment). work_in xs u) is ∙ work_put v d.anew ss u (λ k t low. (old.each k t low).few)) ∙ none);
+        only = λ fresh u none. old.only fresh u (sym (ap (λ (xs : List Segment). work_in xs u) is ∙ work_put v d.anew ss u (λ k t low. (old.each k t low).few)) ∙ none);
       }
 
 -- ---- the views of segments are those of the order

@@ -1,6 +1,5 @@
 -- An engine at first, and one whose order grew.
-use Rattle.std.proofs.Common.{◌≡◌, ℕ, ◌+◌, ◌≤◌, List, [], ◌++◌, length, map, take, get_or, All, Option, Some, None, refl, sym, ◌∙◌, ap, subst, arith, length-append, Result, Ok, Err}
-use Rattle.std.specs.Result.{OnOk}
+use Rattle.std.proofs.Common.{◌≡◌, ℕ, ◌+◌, ◌≤◌, List, [], ◌++◌, length, map, take, get_or, All, Option, Some, None, refl, sym, ◌∙◌, ap, subst, arith, length-append}
 use Rattle.std.specs.List.{sum_by}
 use Rattle.graph_model.specs.declared.number.ViewNo.{ViewNo}
 use Rattle.graph_model.specs.GraphData.{GraphData, AreDistinct}
@@ -91,7 +90,7 @@ module _ (e : Engine) (first : IsFirst e) where
     in_order = order_none e.split (segments_in e) first.segments;
     each = all_none (SegmentStands (task_of answer m e)) (segments_in e) first.segments;
     holds = all_none (λ s. All (HoldsView (task_of answer m e) e.results) (take (length s.works) s.views)) (segments_in e) first.segments;
-    only = λ v none. ap (λ (hs : List Held). let r : ResultsData = record { nodes = e.results.nodes; held = hs } in held_on r v) first.held;
+    only = λ fresh v none. ap (λ (hs : List Held). let r : ResultsData = record { nodes = e.results.nodes; held = hs } in held_on r v) first.held;
   }
 
   pub first_finished : AreFinished e
@@ -191,13 +190,3 @@ module _ (e : Engine) (views o : List ViewNo) (is : o ≡ e.order ++ views) (e2 
 
 pub engine_added : (e : Engine) (views o : List ViewNo) → o ≡ e.order ++ views → IsEngine e → length e.order + length views ≤ 1_024 → IsEngine (record e { order = o })
 engine_added e views o is engine few = subst (λ (l : List ViewNo). IsEngine (record e { order = l })) (sym is) (engine_longer e views engine few)
-
--- ---- where the answer is Ok
-
-pub on_ok : {T E P Q : Type 0} → (r : Result T E) → (P → Q) → OnOk r P → OnOk r Q
-on_ok (Ok x) f p = f p
-on_ok (Err e) f p = tt
-
-pub on_ok₃ : {T E P Q R S : Type 0} → (r : Result T E) → (P → Q → R → S) → OnOk r P → OnOk r Q → OnOk r R → OnOk r S
-on_ok₃ (Ok x) f p q s = f p q s
-on_ok₃ (Err e) f p q s = tt

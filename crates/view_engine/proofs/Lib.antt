@@ -9,3 +9,4 @@ pub mod Beginning
 pub mod Filling
 pub mod Deciding
 pub mod Telling
+pub mod Refusing

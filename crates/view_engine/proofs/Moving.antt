@@ -1,5 +1,5 @@
 -- The next view of a segment is stepped.
-use Rattle.std.proofs.Common.{◌≡◌, ℕ, zero, suc, ◌+◌, ◌*◌, ◌<◌, ◌≤◌, List, [], ◌∷◌, ◌++◌, length, map, take, get_or, slice_get, set, All, Option, Some, None, refl, sym, ◌∙◌, ap, ap₂, subst, arith, length-append, length-set, Vec}
+use Rattle.std.proofs.Common.{◌≡◌, ℕ, zero, suc, ◌+◌, ◌*◌, ◌<◌, ◌≤◌, false, List, [], ◌∷◌, ◌++◌, length, map, take, get_or, slice_get, set, All, Option, Some, None, refl, sym, ◌∙◌, ap, ap₂, subst, arith, length-append, length-set, Vec}
 use Rattle.std.specs.Prelude.{option_and_then}
 use Rattle.std.specs.List.{sum_by}
 use Rattle.std.proofs.lemmas.List.{map-append}
@@ -85,14 +85,14 @@ last_among (x ∷ y ∷ us) u is = let rest = last_among (y ∷ us) u is in (suc
 
 -- ---- what is kept of the step
 
-module _ (answer : Answer) (m : MatrixData) (e : Engine) (engine : IsEngine e) (stands : Stands answer m e) (k : ℕ) (s : Segment) (at : slice_get (segments_in e) k ≡ Some s) where
+module _ (answer : Answer) (m : MatrixData) (e : Engine) (fresh : e.spent ≡ false) (engine : IsEngine e) (stands : Stands answer m e) (k : ℕ) (s : Segment) (at : slice_get (segments_in e) k ≡ Some s) where
   distinct_views : AreDistinct (views_in (segments_in e))
   distinct_views = subst AreDistinct (sym engine.assigned_views) (distinct_take e.assigned e.order stands.distinct)
 
   module _ (given : Given) (is : IsGiven (task_of answer m e) s given) where
     -- the view has no answer yet
     pub no_answer : held_on e.results given.view ≡ None
-    no_answer = stands.only given.view (next_has_none given.view (segments_in e) k s distinct_views at is.view)
+    no_answer = stands.only fresh given.view (next_has_none given.view (segments_in e) k s distinct_views at is.view)
 
     pub is_new : IsNew e.results given.view
     is_new = rw no_answer refl
@@ -176,7 +176,7 @@ module _ (answer : Answer) (m : MatrixData) (e : Engine) (engine : IsEngine e) (
       pub only_now : (u : ViewNo) → work_in (set (segments_in e) k t) u ≡ None → held_on (with_answer e.results given.view given.before given.outcome (map pair_of given.change)) u ≡ None
       only_now u none =
           let before = work_more given.view u work s t same more is.view (segments_in e) k at none in
-          held_none e.results (record { view = given.view; outcome = given.outcome; values = values_after e.results given.before (map pair_of given.change) }) u (stands.only u before.0) before.1
+          held_none e.results (record { view = given.view; outcome = given.outcome; values = values_after e.results given.before (map pair_of given.change) }) u (stands.only fresh u before.0) before.1
 
       -- ---- the engine behind the step
 
@@ -218,7 +218,7 @@ module _ (answer : Answer) (m : MatrixData) (e : Engine) (engine : IsEngine e) (
           in_order = order_by e.split (ready_by e.split stands.assigned);
           each = each_now;
           holds = rw (put_in, kept) holds_now;
-          only = λ u none. ap (λ (r : ResultsData). held_on r u) kept ∙ only_now u (sym (ap (λ (ss : List Segment). work_in ss u) put_in) ∙ none);
+          only = λ _ u none. ap (λ (r : ResultsData). held_on r u) kept ∙ only_now u (sym (ap (λ (ss : List Segment). work_in ss u) put_in) ∙ none);
         }
 
         small_work : work ≡ work_of (task_of answer m e) (last_stepped s) given.view.0 → work ≤ 1_000_000_000_000

@@ -1,5 +1,8 @@
 -- Inside: how the next view of an order gets its segment.
-use Rattle.std.specs.Prelude.{◌≡◌, ◌≤◌, ◌+◌, ℕ, min, ⊤, Bool, List, [], ◌∷◌, ◌++◌, length, take, map, All, if◌then◌else◌, None}
+use Rattle.std.specs.Prelude.{◌≡◌, ◌≤◌, ◌+◌, ℕ, min, ⊤, Bool, false, List, [], ◌∷◌, ◌++◌, length, take, map, slice_get, set, All, if◌then◌else◌, Option, Some, None, Vec}
+use Rattle.std.specs.declared.alloc.Global.{Global}
+use Rattle.graph_model.specs.declared.number.NodeNo.{NodeNo}
+use Rattle.graph_model.specs.declared.value.Val.{Val}
 use Rattle.graph_model.specs.declared.number.ViewNo.{ViewNo}
 use Rattle.graph_model.specs.GraphData.{AreDistinct}
 use Rattle.vertex_lang.specs.Expressions.{Answer}
@@ -9,14 +12,18 @@ use Rattle.segment_split.specs.declared.Counts.{Counts}
 use Rattle.segment_split.specs.Rule.{starts_new}
 use Rattle.view_matrix.specs.Matrices.{MatrixData, IsView}
 use Rattle.view_order.specs.Greedy.{numbers}
-use Rattle.result_tables.specs.Results.{held_on}
+use Rattle.result_tables.specs.Results.{Held, ResultsData, held_on}
+use Rattle.round_kernel.specs.declared.kernel.Kernel.{Kernel}
+use Rattle.view_segment.specs.declared.segment.Given.{Given}
+use Rattle.view_segment.specs.declared.segment.Kept.{Kept}
 use Rattle.view_segment.specs.declared.segment.Segment.{Segment}
-use Rattle.view_segment.specs.Segments.{SegmentStands}
+use Rattle.view_segment.specs.Segments.{SegmentStands, taken_back}
 use Rattle.view_segment.specs.Tasks.{Task, works_of}
 use Rattle.view_engine.specs.declared.counting.Decision.{Decision}
 use Rattle.view_engine.specs.declared.engine.Engine.{Engine}
+use Rattle.view_engine.specs.declared.placing.Mark.{Mark}
 use Rattle.view_engine.specs.Splits.{counts_of, segments_of}
-use Rattle.view_engine.specs.Engines.{segments_in, task_of, work_at, last_views, KeepsLater, IsInOrder, HoldsView, AreFinished, IsSameRun, HasMoved, works_in, stepped_in}
+use Rattle.view_engine.specs.Engines.{segments_in, task_of, work_at, last_views, KeepsLater, IsInOrder, IsKernelOf, HoldsView, AreFinished, IsSameRun, HasMoved, works_in, stepped_in}
 
 -- ---- a view more
 
@@ -72,7 +79,7 @@ pub record SoFar (answer : Answer) (m : MatrixData) (e : Engine) : Type 0 where
   pub in_order : IsInOrder e.split (segments_in e)
   pub each : All (SegmentStands (task_of answer m e)) (segments_in e)
   pub holds : All (λ s. All (HoldsView (task_of answer m e) e.results) (take (length s.works) s.views)) (segments_in e)
-  pub only : (v : ViewNo) → work_at e v ≡ None → held_on e.results v ≡ None
+  pub only : e.spent ≡ false → (v : ViewNo) → work_at e v ≡ None → held_on e.results v ≡ None
 
 -- ---- what calls inside leave
 
@@ -108,3 +115,67 @@ pub record HasStepped (k : ℕ) (old new : Engine) (calls_before calls_after : �
   pub spent : new.spent ≡ old.spent
   pub ready : AreReadyFor old.split new
   pub stepped : stepped_in new ≡ stepped_in old + 1
+
+-- how the values of a view differ, as pairs of a node and its value
+abbrev pub change_in : Given → List (NodeNo × Val)
+change_in given = map (λ c. (c.node, c.value)) given.change
+
+-- ---- what a refused call leaves
+
+-- so many segments, and so many views in the last of them
+pub record IsMark (ss : List Segment) (mark : Mark) : Type 0 where
+  pub segments : mark.segments ≡ length ss
+  pub views : mark.views ≡ length (last_views ss)
+
+-- a segment with views put behind its own
+pub record IsGrown (before s : Segment) : Type 0 where
+  pub few : length before.views ≤ length s.views
+  pub same : (record s { views = take (length before.views) s.views }) ≡ before
+
+-- segments with views put behind their own: in the last of them, and in further ones
+abbrev pub AreGrown : List Segment → List Segment → Type 0
+AreGrown [] ts = ⊤
+AreGrown (s ∷ ss) [] = ⊥
+AreGrown (s ∷ []) (t ∷ ts) = IsGrown s t
+AreGrown (s ∷ u ∷ ss) (t ∷ ts) = (t ≡ s) × AreGrown (u ∷ ss) ts
+
+-- views got segments, and nothing else changed
+pub record HasGrown (old new : Engine) : Type 0 where
+  pub assigned : ℕ
+  pub later : ℕ
+  pub is : new ≡ record old { segments = new.segments; assigned = assigned; later = later }
+  pub grown : (ss : List Segment) → AreGrown ss (segments_in old) → AreGrown ss (segments_in new)
+
+-- nothing changed but where segments lie in memory
+pub record HasStayed (old new : Engine) : Type 0 where
+  pub same : new ≡ record old { segments = new.segments }
+  pub segments : segments_in new ≡ segments_in old
+
+-- an engine with these in place of its own
+abbrev pub changed : Engine → Vec Segment Global → Option Kernel → ResultsData → Engine
+changed e segments kernel results = record e { segments = segments; kernel = kernel; results = results }
+
+-- each answer that was held is held
+abbrev pub StillHolds : (old new : ResultsData) → Type 0
+StillHolds old new = (v : ViewNo) (h : Held) → held_on old v ≡ Some h → held_on new v ≡ Some h
+
+-- Nothing changed that is told: the kernel may be gone, and an answer more may be held.
+pub record IsAsBefore (old new : Engine) : Type 0 where
+  pub segments : Vec Segment Global
+  pub kernel : Option Kernel
+  pub results : ResultsData
+  pub is : new ≡ changed old segments kernel results
+  pub same : segments.items ≡ segments_in old
+  pub ready : IsKernelOf old.graph.now old.program.now.along kernel
+  pub nodes : results.nodes ≡ old.results.nodes
+  pub held : StillHolds old.results results
+
+-- the segments are what they were once the last step of this one is taken back
+pub record LeadsBack (k : ℕ) (kept : Kept) (old new : Engine) : Type 0 where
+  pub is : new ≡ changed old new.segments new.kernel new.results
+  pub size : length (segments_in new) ≡ length (segments_in old)
+  pub some : (s : Segment) → slice_get (segments_in new) k ≡ Some s → 1 ≤ length s.works
+  pub back : (s : Segment) → slice_get (segments_in new) k ≡ Some s → set (segments_in new) k (taken_back s kept) ≡ segments_in old
+  pub ready : IsKernelOf old.graph.now old.program.now.along new.kernel
+  pub nodes : new.results.nodes ≡ old.results.nodes
+  pub held : StillHolds old.results new.results

@@ -1,5 +1,5 @@
 -- What an engine holds.
-use Rattle.std.specs.Prelude.{◌≡◌, ◌≢◌, ◌<◌, ◌≤◌, ◌+◌, ◌*◌, ℕ, suc, min, ⊤, List, [], ◌∷◌, ◌++◌, length, map, take, All, slice_get, get_or, ◌==◌, if◌then◌else◌, Option, Some, None, option_and_then}
+use Rattle.std.specs.Prelude.{◌≡◌, ◌≢◌, ◌<◌, ◌≤◌, ◌+◌, ◌*◌, ℕ, suc, min, ⊤, false, List, [], ◌∷◌, ◌++◌, length, map, take, All, slice_get, get_or, ◌==◌, if◌then◌else◌, Option, Some, None, option_and_then}
 use Rattle.std.specs.List.{sum_by, list_any, position}
 use Rattle.graph_model.specs.declared.number.ViewNo.{ViewNo}
 use Rattle.graph_model.specs.GraphData.{GraphData, AreDistinct}
@@ -108,7 +108,7 @@ IsKernelOf graph along None = ⊤
 IsKernelOf graph along (Some kernel) = IsKernel graph kernel × AreOfAll along graph kernel.rows
 
 -- An engine stands for a matrix: its segments are those of the split, each holds what its views ask, and the results hold
--- exactly the views that were stepped.
+-- the views that were stepped. Unless it is spent they hold no other.
 pub record Stands (answer : Answer) (m : MatrixData) (e : Engine) : Type 0 where
   pub matrix : length m.live ≡ length e.graph.now.ends
   pub views : All (IsView m) e.order
@@ -119,7 +119,7 @@ pub record Stands (answer : Answer) (m : MatrixData) (e : Engine) : Type 0 where
   pub in_order : IsInOrder e.split (segments_in e)
   pub each : All (SegmentStands (task_of answer m e)) (segments_in e)
   pub holds : All (λ s. All (HoldsView (task_of answer m e) e.results) (take (length s.works) s.views)) (segments_in e)
-  pub only : (v : ViewNo) → work_at e v ≡ None → held_on e.results v ≡ None
+  pub only : e.spent ≡ false → (v : ViewNo) → work_at e v ≡ None → held_on e.results v ≡ None
 
 -- a segment has a view, and no more works than views, none of them above the greatest number of nodes times that of rounds
 pub record IsSound (s : Segment) : Type 0 where
@@ -164,6 +164,16 @@ pub record IsSameRun (old new : Engine) : Type 0 where
   pub program : new.program ≡ old.program
   pub rounds : new.rounds ≡ old.rounds
   pub split : new.split ≡ old.split
+
+-- All that is told of an engine is as it was: which views it has, its segments with the views and works of each, and so the
+-- segment and the work of each view. It stands for the same matrices, so the table of each view is the same, too.
+pub record TellsTheSame (old new : Engine) : Type 0 where
+  pub run : IsSameRun old new
+  pub order : new.order ≡ old.order
+  pub segments : segments_in new ≡ segments_in old
+  pub segment_of : (v : ViewNo) → segment_at new v ≡ segment_at old v
+  pub work : (v : ViewNo) → work_at new v ≡ work_at old v
+  pub stands : (answer : Answer) (m : MatrixData) → Stands answer m old → Stands answer m new
 
 -- The next view of this segment was stepped, and nothing else. The updater was called as often as its work says.
 pub record HasMoved (k : ℕ) (old new : Engine) (calls_before calls_after : ℕ) : Type 0 where

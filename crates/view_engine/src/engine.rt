@@ -8,12 +8,12 @@ ghost use Rattle.vertex_lang.specs.Leaves.{IsChecked};
 ghost use Rattle.vertex_lang.specs.Lone.{number_of};
 ghost use Rattle.view_matrix.specs.Matrices.{MatrixData, IsView};
 ghost use Rattle.view_segment.specs.Segments.{IsFinished};
-ghost use Rattle.view_engine.specs.Assigning.{AreReadyFor, SoFar, IsAssigned, IsFilled, HasStepped};
-ghost use Rattle.view_engine.specs.Engines.{AllowsSplit, IsEngine, IsKernelOf, Stands, AreFinished, IsSameRun, HasMoved, IsResult, task_of, works_in, segment_at, work_at, work_beside, work_in};
+ghost use Rattle.view_engine.specs.Assigning.{AreReadyFor, SoFar, IsAssigned, IsFilled, HasStepped, HasStayed, HasGrown, IsAsBefore, LeadsBack};
+ghost use Rattle.view_engine.specs.Engines.{AllowsSplit, IsEngine, IsKernelOf, Stands, AreFinished, IsSameRun, HasMoved, TellsTheSame, IsResult, task_of, works_in, segment_at, work_at, work_beside, work_in};
 
-use crate::changes::pairs;
+use crate::changes::hold;
 use crate::counting::decide;
-use crate::placing::put;
+use crate::placing::{cut, mark_of, put};
 use graph_model::{Graph, ViewNo};
 use result_tables::{Results, Table};
 use round_kernel::Kernel;
@@ -22,7 +22,7 @@ use std::alloc::Global;
 use surge_outside::{List, NoMemory};
 use vertex_lang::{Along, Program, Rounds, Updater};
 use view_matrix::Matrix;
-use view_segment::Segment;
+use view_segment::{Kept, Segment};
 
 /// What a turn did.
 #[derive(Clone, Copy, Debug, PartialEq, Eq)]
@@ -35,7 +35,8 @@ pub enum Turn {
 
 /// The run of a program on views in an order, in segments. Of the order the first `assigned` views have a segment. Where
 /// the split looks at works, `later` says in how many edges the later views of the last segment differ from the view before
-/// each. After want of memory the engine is spent.
+/// each. After want of memory the engine is spent: it takes no turn and no views any more, and tells what it told before the
+/// call that was refused.
 #[derive(Drop)]
 pub struct Engine<'g> {
     alloc: Global,
@@ -99,14 +100,16 @@ impl<'g> Engine<'g> {
         Ok(engine)
     }
 
-    // The next view of the order gets its segment.
+    // The next view of the order gets its segment. A refusal leaves the engine as it was.
     fn assign(&mut self, matrix: &Matrix) -> Result<(), NoMemory>
         requires engine { IsEngine self.old }
         requires left { self.old.assigned < length self.old.order }
         requires views { All (IsView matrix.now) self.old.order }
         ensures engine { OnOk result (IsEngine self.new) }
         ensures one { OnOk result (IsAssigned 1 self.old self.new) }
+        ensures grown { OnOk result (HasGrown self.old self.new) }
         ensures stands { OnOk result ((answer : Answer) → AreReadyFor self.old.split self.old → SoFar answer matrix.now self.old → SoFar answer matrix.now self.new) }
+        ensures err { OnErr result (HasStayed self.old self.new) }
     {
         let view = self.order.as_slice()[self.assigned];
         let decision = decide(self.split, matrix, &self.segments, self.later, view);
@@ -116,14 +119,15 @@ impl<'g> Engine<'g> {
         Ok(())
     }
 
-    // All views of the order get their segments, by a split that looks at no work.
-    fn assign_all(&mut self, matrix: &Matrix) -> Result<(), NoMemory>
+    // All views of the order get their segments, by a split that looks at no work. Behind a refusal some may have theirs.
+    fn assign_rest(&mut self, matrix: &Matrix) -> Result<(), NoMemory>
         requires engine { IsEngine self.old }
         requires split { self.old.split ≢ SplitRule.Auto }
         requires views { All (IsView matrix.now) self.old.order }
         ensures engine { OnOk result (IsEngine self.new) }
         ensures more { OnOk result (IsAssigned (length self.old.order - self.old.assigned) self.old self.new) }
         ensures stands { OnOk result ((answer : Answer) → SoFar answer matrix.now self.old → SoFar answer matrix.now self.new) }
+        ensures err { OnErr result (HasGrown self.old self.new) }
     {
         while self.assigned < self.order.len() {
             self.assign(matrix)?;
@@ -131,13 +135,38 @@ impl<'g> Engine<'g> {
         Ok(())
     }
 
-    // Views of the order get their segments, as far as the split tells them by now.
+    // The same, but a refusal leaves the engine as it was.
+    fn assign_all(&mut self, matrix: &Matrix) -> Result<(), NoMemory>
+        requires engine { IsEngine self.old }
+        requires split { self.old.split ≢ SplitRule.Auto }
+        requires views { All (IsView matrix.now) self.old.order }
+        ensures engine { OnOk result (IsEngine self.new) }
+        ensures more { OnOk result (IsAssigned (length self.old.order - self.old.assigned) self.old self.new) }
+        ensures stands { OnOk result ((answer : Answer) → SoFar answer matrix.now self.old → SoFar answer matrix.now self.new) }
+        ensures err { OnErr result (HasStayed self.old self.new) }
+    {
+        let before = mark_of(&self.segments);
+        let assigned = self.assigned;
+        let later = self.later;
+        match self.assign_rest(matrix) {
+            Ok(()) => Ok(()),
+            Err(NoMemory) => {
+                cut(&mut self.segments, before);
+                self.assigned = assigned;
+                self.later = later;
+                Err(NoMemory)
+            }
+        }
+    }
+
+    // Views of the order get their segments, as far as the split tells them by now. A refusal leaves the engine as it was.
     fn fill(&mut self, matrix: &Matrix) -> Result<(), NoMemory>
         requires engine { IsEngine self.old }
         requires views { All (IsView matrix.now) self.old.order }
         ensures engine { OnOk result (IsEngine self.new) }
         ensures more { OnOk result (IsFilled self.old self.new) }
         ensures stands { OnOk result ((answer : Answer) → AreReadyFor self.old.split self.old → SoFar answer matrix.now self.old → SoFar answer matrix.now self.new) }
+        ensures err { OnErr result (HasStayed self.old self.new) }
     {
         match self.split {
             SplitRule::Auto => {
@@ -182,7 +211,8 @@ impl<'g> Engine<'g> {
     }
 
     /// Steps the next view of this segment: [`Turn::Moved`], or [`Turn::Finished`] exactly where each of its views was
-    /// stepped before, which changes nothing. The error is want of memory; then the engine is spent.
+    /// stepped before, which changes nothing. The error is want of memory; then the engine is spent, and tells what it told
+    /// before.
     pub fn turn<U: Updater>(
         &mut self,
         matrix: &Matrix,
@@ -193,9 +223,10 @@ impl<'g> Engine<'g> {
         requires engine { IsEngine self.old }
         requires segment { segment < length self.old.segments.items }
         requires stands { Stands U.answer matrix.now self.old }
-        ensures engine { OnOk result (IsEngine self.new) }
+        ensures engine { IsEngine self.new }
         ensures fresh { OnOk result (self.new.spent ≡ false) }
         ensures spent { OnErr result (self.new.spent ≡ true) }
+        ensures kept { OnErr result (TellsTheSame self.old self.new) }
         ensures moved { result ≡ Ok Turn.Moved → Stands U.answer matrix.now self.new × HasMoved segment self.old self.new (U.calls updater.old) (U.calls updater.new) }
         ensures finished { result ≡ Ok Turn.Finished → (s : Segment) → slice_get self.old.segments.items segment ≡ Some s → IsFinished s }
         ensures only { (s : Segment) → slice_get self.old.segments.items segment ≡ Some s → IsFinished s → result ≡ Ok Turn.Finished }
@@ -214,13 +245,15 @@ impl<'g> Engine<'g> {
         }
     }
 
-    // Steps the next view of a segment that isn't finished, and keeps its answer.
+    // Steps the next view of a segment that isn't finished, and keeps its answer. The result is what the segment kept before,
+    // with which the step can be taken back. A refusal takes it back.
     fn step<U: Updater>(
         &mut self,
         matrix: &Matrix,
         segment: usize,
         updater: &mut U,
-    ) -> Result<(), NoMemory>
+    ) -> Result<Kept, NoMemory>
+        requires fresh { self.old.spent ≡ false }
         requires engine { IsEngine self.old }
         requires unfinished { (s : Segment) → slice_get self.old.segments.items segment ≡ Some s → IsFinished s → ⊥ }
         requires segment { segment < length self.old.segments.items }
@@ -228,6 +261,8 @@ impl<'g> Engine<'g> {
         ensures engine { OnOk result (IsEngine self.new) }
         ensures moved { OnOk result (HasStepped segment self.old self.new (U.calls updater.old) (U.calls updater.new)) }
         ensures stands { OnOk result (SoFar U.answer matrix.now self.new) }
+        ensures back { IfOk result (λ kept. LeadsBack segment kept self.old self.new) }
+        ensures err { OnErr result (IsAsBefore self.old self.new) }
     {
         let mut kernel = take_kernel(self.alloc, &mut self.kernel, self.graph, self.program.along)?;
         let given = self.segments[segment].step(
@@ -240,18 +275,24 @@ impl<'g> Engine<'g> {
             updater,
         )?;
         self.kernel = Some(kernel);
-        let change = pairs(self.alloc, &given.change)?;
-        self.results
-            .add_change(given.view, given.before, given.outcome, &change)
+        match hold(self.alloc, &mut self.results, &given) {
+            Ok(()) => Ok(given.kept),
+            Err(NoMemory) => {
+                self.segments[segment].take_back(given.kept);
+                Err(NoMemory)
+            }
+        }
     }
 
-    // Steps the next view of a segment that isn't finished, and gives a segment to the view that waited for that.
+    // Steps the next view of a segment that isn't finished, and gives a segment to the view that waited for that. A refusal
+    // takes the step back.
     fn move_on<U: Updater>(
         &mut self,
         matrix: &Matrix,
         segment: usize,
         updater: &mut U,
     ) -> Result<(), NoMemory>
+        requires fresh { self.old.spent ≡ false }
         requires engine { IsEngine self.old }
         requires unfinished { (s : Segment) → slice_get self.old.segments.items segment ≡ Some s → IsFinished s → ⊥ }
         requires segment { segment < length self.old.segments.items }
@@ -260,13 +301,20 @@ impl<'g> Engine<'g> {
         ensures fresh { OnOk result (self.new.spent ≡ self.old.spent) }
         ensures moved { OnOk result (HasMoved segment self.old self.new (U.calls updater.old) (U.calls updater.new)) }
         ensures stands { OnOk result (Stands U.answer matrix.now self.new) }
+        ensures err { OnErr result (IsAsBefore self.old self.new) }
     {
-        self.step(matrix, segment, updater)?;
-        self.fill(matrix)
+        let kept = self.step(matrix, segment, updater)?;
+        match self.fill(matrix) {
+            Ok(()) => Ok(()),
+            Err(NoMemory) => {
+                self.segments[segment].take_back(kept);
+                Err(NoMemory)
+            }
+        }
     }
 
     /// Adds these views of a matrix behind its own, once each of its own was stepped. The error is want of memory; then the
-    /// engine is spent.
+    /// engine is spent, and tells what it told before.
     pub fn more(&mut self, matrix: &Matrix, views: &[ViewNo]) -> Result<(), NoMemory>
         requires fresh { self.old.spent ≡ false }
         requires engine { IsEngine self.old }
@@ -275,9 +323,10 @@ impl<'g> Engine<'g> {
         requires views { All (IsView matrix.now) (self.old.order ++ views.now) }
         requires distinct { AreDistinct (self.old.order ++ views.now) }
         requires few { length self.old.order + length views.now ≤ 1_024 }
-        ensures engine { OnOk result (IsEngine self.new) }
+        ensures engine { IsEngine self.new }
         ensures fresh { OnOk result (self.new.spent ≡ false) }
         ensures spent { OnErr result (self.new.spent ≡ true) }
+        ensures kept { OnErr result (TellsTheSame self.old self.new) }
         ensures run { OnOk result (IsSameRun self.old self.new) }
         ensures order { OnOk result (self.new.order ≡ self.old.order ++ views.now) }
         ensures works { OnOk result ((k : ℕ) → works_in self.new k ≡ works_in self.old k) }
@@ -292,7 +341,7 @@ impl<'g> Engine<'g> {
         }
     }
 
-    // Adds these views behind its own.
+    // Adds these views behind its own. A refusal leaves the engine as it was.
     fn add(&mut self, matrix: &Matrix, views: &[ViewNo]) -> Result<(), NoMemory>
         requires engine { IsEngine self.old }
         requires finished { AreFinished self.old }
@@ -305,10 +354,18 @@ impl<'g> Engine<'g> {
         ensures order { OnOk result (self.new.order ≡ self.old.order ++ views.now) }
         ensures works { OnOk result ((k : ℕ) → works_in self.new k ≡ works_in self.old k) }
         ensures stands { OnOk result ((answer : Answer) → Stands answer matrix.now self.old → Stands answer matrix.now self.new) }
+        ensures err { OnErr result (HasStayed self.old self.new) }
     {
         let added = copied(self.alloc, views)?;
+        let count = self.order.len();
         self.order.append(added)?;
-        self.fill(matrix)
+        match self.fill(matrix) {
+            Ok(()) => Ok(()),
+            Err(NoMemory) => {
+                self.order.truncate(count);
+                Err(NoMemory)
+            }
+        }
     }
 
     /// Gives back the working lists that only turns use. The next turn makes them again.
@@ -342,11 +399,15 @@ impl<'g> Engine<'g> {
         work_in(&self.segments, view)
     }
 
-    /// The answer of the plain run alone on a view; none where it wasn't stepped. The error is want of memory.
+    /// The answer of the plain run alone on a view; none where it wasn't stepped, also where its answer is held, as behind a
+    /// turn that was refused. The error is want of memory.
     pub fn result(&self, view: ViewNo) -> Result<Option<Table>, NoMemory>
         requires { IsEngine self.now }
         ensures { (answer : Answer) (m : MatrixData) → Stands answer m self.now → IfOk result (IsResult (task_of answer m self.now) view (work_at self.now view)) }
     {
+        if self.work(view).is_none() {
+            return Ok(None);
+        }
         if self.results.has(view) {
             Ok(Some(self.results.table(view)?))
         } else {
@@ -363,7 +424,8 @@ fn take_kernel(
     along: Along,
 ) -> Result<Kernel, NoMemory>
     requires { IsKernelOf graph.now along kernel.old }
-    ensures { IfOk result (λ kernel. IsKernelOf graph.now along (Some kernel)) }
+    ensures ready { IfOk result (λ kernel. IsKernelOf graph.now along (Some kernel)) }
+    ensures taken { kernel.new ≡ None }
 {
     match kernel.take() {
         Some(kernel) => Ok(kernel),

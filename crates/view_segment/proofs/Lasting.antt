@@ -11,8 +11,9 @@ use Rattle.change_lists.specs.declared.history.History.{History}
 use Rattle.round_kernel.specs.Histories.{IsHistory}
 use Rattle.view_order.specs.Greedy.{numbers}
 use Rattle.round_kernel.specs.declared.step.Stepped.{Stepped}
+use Rattle.view_segment.specs.declared.segment.Kept.{Kept}
 use Rattle.view_segment.specs.declared.segment.Segment.{Segment}
-use Rattle.view_segment.specs.Segments.{last_of, HistoryOf, FlagsOf, view_flags, last_stepped, place_of, SegmentStands, IsGiven}
+use Rattle.view_segment.specs.Segments.{last_of, HistoryOf, FlagsOf, view_flags, last_stepped, kept_of, place_of, SegmentStands, IsGiven}
 use Rattle.view_segment.specs.Steps.{IsStep}
 use Rattle.view_segment.specs.Tasks.{Task, view_arcs, work_of, works_from, works_of}
 
@@ -150,11 +151,12 @@ module _ (task : Task) (s : Segment) (views : List ViewNo) (k : ℕ) (ev : views
         done = are.done;
       })
 
-  pub given-by : (t : Stepped) (before : Option ViewNo) → IsStep task (last_stepped s) (get_or views k nothing).0 t → place_of before ≡ last_stepped s
-      → IsGiven task s (record { view = get_or views k nothing; before = before; outcome = t.outcome; change = t.change })
-  given-by t before step e = record {
+  pub given-by : (t : Stepped) (before : Option ViewNo) (kept : Kept) → IsStep task (last_stepped s) (get_or views k nothing).0 t → place_of before ≡ last_stepped s → kept ≡ kept_of s
+      → IsGiven task s (record { view = get_or views k nothing; before = before; outcome = t.outcome; change = t.change; kept = kept })
+  given-by t before kept step e same = record {
     view = slice_get-get_or s.views (length s.works) nothing low ∙ ap (λ (v : ViewNo). Some v) (sym next-is);
     before = e;
     outcome = step.outcome;
     change = step.change;
+    kept = same;
   }

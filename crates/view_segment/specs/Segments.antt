@@ -1,5 +1,5 @@
 -- What a segment holds.
-use Rattle.std.specs.Prelude.{◌≡◌, ◌≤◌, ℕ, ⊤, Bool, List, [], ◌∷◌, length, map, take, slice_get, Option, Some, None, IfSome}
+use Rattle.std.specs.Prelude.{◌≡◌, ◌≤◌, ◌-◌, ℕ, ⊤, Bool, List, [], ◌∷◌, length, map, take, slice_get, Option, Some, None, IfSome}
 use Rattle.std.specs.List.{range_with_len}
 use Rattle.edge_predicates.specs.ViewEdges.{edge}
 use Rattle.graph_model.specs.declared.number.ViewNo.{ViewNo}
@@ -13,6 +13,7 @@ use Rattle.change_lists.specs.ChangeLists.{all_from, changes_from}
 use Rattle.view_matrix.specs.Matrices.{is_in}
 use Rattle.view_order.specs.Greedy.{numbers}
 use Rattle.view_segment.specs.declared.segment.Segment.{Segment}
+use Rattle.view_segment.specs.declared.segment.Kept.{Kept}
 use Rattle.view_segment.specs.declared.segment.Given.{Given}
 use Rattle.view_segment.specs.Tasks.{Task, view_arcs, lone_of, works_of}
 
@@ -70,6 +71,14 @@ abbrev pub change_of : Task → Option ℕ → ℕ → List Change
 change_of task None v = all_from 0 (last_values task v)
 change_of task (Some u) v = changes_from 0 (last_values task u) (last_values task v)
 
+-- what a segment keeps of the view that was stepped last
+abbrev pub kept_of : Segment → Kept
+kept_of s = record { history = s.history; flags = s.flags }
+
+-- without the last step, and with this kept
+abbrev pub taken_back : Segment → Kept → Segment
+taken_back s kept = record { views = s.views; works = take (length s.works - 1) s.works; history = kept.history; flags = kept.flags }
+
 abbrev pub place_of : Option ViewNo → Option ℕ
 place_of None = None
 place_of (Some view) = Some view.0
@@ -80,3 +89,4 @@ pub record IsGiven (task : Task) (s : Segment) (given : Given) : Type 0 where
   pub before : place_of given.before ≡ last_stepped s
   pub outcome : given.outcome ≡ (lone_of task given.view.0).outcome
   pub change : given.change ≡ change_of task (last_stepped s) given.view.0
+  pub kept : given.kept ≡ kept_of s

@@ -1,8 +1,8 @@
 //! The edges that two views don't share, and the flags of a view, also by those of another one.
 
-ghost use Rattle.std.specs.Prelude.{◌≡◌, ◌<◌, length, fold, All, Some, IfOk, IfSome};
+ghost use Rattle.std.specs.Prelude.{◌≡◌, ◌<◌, length, fold, All, Some, IfOk};
 ghost use Rattle.view_matrix.specs.Matrices.{IsView, apart};
-ghost use Rattle.view_segment.specs.Steps.{flags_of, with_turned};
+ghost use Rattle.view_segment.specs.Steps.{with_turned};
 
 use graph_model::{EdgeNo, ViewNo};
 use std::alloc::Global;
@@ -26,24 +26,6 @@ pub(crate) fn turned_edges(
         edges.push(difference.0)?;
     }
     Ok(edges)
-}
-
-/// Of each edge whether it is in the view: the flags that are kept, and where none are, those that the matrix tells. The
-/// error is want of memory.
-pub(crate) fn known_flags(
-    alloc: Global,
-    matrix: &Matrix,
-    kept: Option<Vec<bool>>,
-    view: ViewNo,
-) -> Result<Vec<bool>, NoMemory>
-    requires view { IsView matrix.now view }
-    requires kept { IfSome kept (λ flags. flags.items ≡ flags_of matrix.now view.0) }
-    ensures { IfOk result (λ flags. flags.items ≡ flags_of matrix.now view.0) }
-{
-    match kept {
-        Some(flags) => Ok(flags),
-        None => matrix.flags(alloc, view),
-    }
 }
 
 /// These flags with those of these edges turned. The error is want of memory.

@@ -1,6 +1,6 @@
 //! A segment.
 
-ghost use Rattle.std.specs.Prelude.{◌≡◌, ◌<◌, ◌≤◌, ◌+◌, ◌++◌, ◌∷◌, [], length, All, IfOk, OnOk, OnErr, None};
+ghost use Rattle.std.specs.Prelude.{◌≡◌, ◌<◌, ◌≤◌, ◌+◌, ◌++◌, ◌∷◌, [], length, take, All, IfOk, OnOk, OnErr, None};
 ghost use Rattle.std.specs.Prelude.{◌==◌};
 ghost use Rattle.vertex_lang.specs.Leaves.{IsChecked};
 ghost use Rattle.vertex_lang.specs.Lone.{number_of};
@@ -8,7 +8,7 @@ ghost use Rattle.round_kernel.specs.Kernels.{IsKernel};
 ghost use Rattle.arc_rows.specs.RowLists.{AreOfAll};
 ghost use Rattle.view_matrix.specs.Matrices.{IsView};
 ghost use Rattle.view_segment.specs.Tasks.{task_over, work_of};
-ghost use Rattle.view_segment.specs.Segments.{last_stepped, place_of, SegmentStands, IsGiven};
+ghost use Rattle.view_segment.specs.Segments.{last_stepped, place_of, taken_back, SegmentStands, IsGiven};
 ghost use Rattle.view_segment.specs.Steps.{IsSetting, IsStep, flags_of, task_in};
 
 use crate::step::{Setting, step_first, step_later};
@@ -16,6 +16,7 @@ use change_lists::{Change, History};
 use graph_model::{Graph, ViewNo};
 use round_kernel::{Kernel, Stepped};
 use std::alloc::Global;
+use std::mem;
 use surge_outside::{List, NoMemory};
 use vertex_lang::{Outcome, Program, Rounds, Updater};
 use view_matrix::Matrix;
@@ -31,6 +32,13 @@ pub struct Segment {
     flags: Option<Vec<bool>>,
 }
 
+/// What a segment keeps of the view that was stepped last.
+#[derive(Debug, Drop)]
+pub struct Kept {
+    history: Option<History>,
+    flags: Option<Vec<bool>>,
+}
+
 /// What the step of a view gives.
 #[derive(Debug, Drop)]
 pub struct Given {
@@ -42,6 +50,8 @@ pub struct Given {
     pub outcome: Outcome,
     /// How its values after all rounds differ from those of the view before, by rising node; of a first view all of them.
     pub change: List<Change>,
+    /// What the segment kept before the step, with which [`Segment::take_back`] makes it what it was.
+    pub kept: Kept,
 }
 
 impl Segment {
@@ -85,8 +95,26 @@ impl Segment {
         self.works.as_slice()
     }
 
+    /// Only the first views stay, so many. It is for views that were added and are not stepped yet.
+    pub fn keep_first(&mut self, count: usize)
+        ensures { self.new ≡ record self.old { views = take count self.old.views } }
+    {
+        self.views.truncate(count);
+    }
+
+    /// Takes the last step back, given what the segment kept before it: then it is what it was.
+    pub fn take_back(&mut self, kept: Kept)
+        requires { 1 ≤ length self.old.works }
+        ensures { self.new ≡ taken_back self.old kept }
+    {
+        self.works.truncate(self.works.len() - 1);
+        let Kept { history, flags } = kept;
+        self.history = history;
+        self.flags = flags;
+    }
+
     /// Steps the next view. The kernel holds the arcs of all edges of the graph in the direction of the program. The error is want
-    /// of memory; then the segment may be any.
+    /// of memory, and it leaves the segment as it was.
     pub fn step<U: Updater>(
         &mut self,
         alloc: Global,
@@ -112,6 +140,7 @@ impl Segment {
         ensures views { OnOk result (self.new.views ≡ self.old.views) }
         ensures work { IfOk result (λ given. self.new.works ≡ self.old.works ++ (work_of (task_over U.answer program.now graph.now rounds matrix.now) (last_stepped self.old) given.view.0 ∷ [])) }
         ensures given { IfOk result (IsGiven (task_over U.answer program.now graph.now rounds matrix.now) self.old) }
+        ensures err { OnErr result (self.new ≡ self.old) }
         ensures calls { IfOk result (λ given. U.calls updater.new ≡ U.calls updater.old + work_of (task_over U.answer program.now graph.now rounds matrix.now) (last_stepped self.old) given.view.0) }
     {
         let setting = Setting {
@@ -129,21 +158,24 @@ impl Segment {
             work,
         } = stepped;
         self.works.push(work)?;
-        self.history = Some(history);
         let unfinished = self.works.len() < self.views.len();
-        self.flags = unfinished.then_some(flags);
+        let kept = Kept {
+            history: mem::replace(&mut self.history, Some(history)),
+            flags: mem::replace(&mut self.flags, unfinished.then_some(flags)),
+        };
         Ok(Given {
             view,
             before,
             outcome,
             change,
+            kept,
         })
     }
 
-    // Steps a view behind the last one that was stepped, and uses up the flags that are kept of that one. The answer tells
-    // which one that is, if there is one, and the flags of the view.
+    // Steps a view behind the last one that was stepped. The answer tells which one that is, if there is one, and the flags
+    // of the view.
     fn step_view<U: Updater>(
-        &mut self,
+        &self,
         alloc: Global,
         setting: Setting<'_>,
         kernel: &mut Kernel,
@@ -151,19 +183,16 @@ impl Segment {
         updater: &mut U,
     ) -> Result<(Option<ViewNo>, Stepped, Vec<bool>), NoMemory>
         requires setting { IsSetting setting kernel.old }
-        requires views { All (IsView setting.matrix.now) self.old.views }
+        requires views { All (IsView setting.matrix.now) self.now.views }
         requires view { IsView setting.matrix.now view }
-        requires stands { SegmentStands (task_in U.answer setting) self.old }
+        requires stands { SegmentStands (task_in U.answer setting) self.now }
         ensures kernel { OnOk result (IsKernel setting.entry.graph.now kernel.new) }
         ensures rows { kernel.new.rows ≡ kernel.old.rows }
-        ensures before { IfOk result (λ made. place_of made.0 ≡ last_stepped self.old) }
-        ensures step { IfOk result (λ made. IsStep (task_in U.answer setting.entry) (last_stepped self.old) view.0 made.1) }
+        ensures before { IfOk result (λ made. place_of made.0 ≡ last_stepped self.now) }
+        ensures step { IfOk result (λ made. IsStep (task_in U.answer setting.entry) (last_stepped self.now) view.0 made.1) }
         ensures flags { IfOk result (λ made. made.2.items ≡ flags_of setting.entry.matrix.now view.0) }
-        ensures views { self.new.views ≡ self.old.views }
-        ensures works { self.new.works ≡ self.old.works }
         ensures calls { IfOk result (λ made. U.calls updater.new ≡ U.calls updater.old + made.1.work) }
     {
-        let kept = self.flags.take();
         match &self.history {
             None => {
                 let (stepped, flags) = step_first(alloc, setting, kernel, view, updater)?;
@@ -172,7 +201,14 @@ impl Segment {
             Some(history) => {
                 let before = self.views.as_slice()[self.works.len() - 1];
                 let (stepped, flags) = step_later(
-                    alloc, setting, kernel, before, history, kept, view, updater,
+                    alloc,
+                    setting,
+                    kernel,
+                    before,
+                    history,
+                    &self.flags,
+                    view,
+                    updater,
                 )?;
                 Ok((Some(before), stepped, flags))
             }

@@ -13,7 +13,7 @@ ghost use Rattle.view_matrix.specs.Matrices.{IsView};
 ghost use Rattle.view_segment.specs.Tasks.{view_arcs};
 ghost use Rattle.view_segment.specs.Steps.{IsSetting, IsStep, flags_of, task_in};
 
-use crate::flags::{known_flags, turned_edges, turned_flags};
+use crate::flags::{turned_edges, turned_flags};
 use change_lists::History;
 use graph_model::{EdgeNo, Graph, ViewNo};
 use round_kernel::{Kernel, Stepped, first_step, next_step};
@@ -61,7 +61,7 @@ pub(crate) fn step_later<U: Updater>(
     kernel: &mut Kernel,
     before: ViewNo,
     history: &History,
-    kept: Option<Vec<bool>>,
+    kept: &Option<Vec<bool>>,
     view: ViewNo,
     updater: &mut U,
 ) -> Result<(Stepped, Vec<bool>), NoMemory>
@@ -69,7 +69,42 @@ pub(crate) fn step_later<U: Updater>(
     requires before { IsView setting.matrix.now before }
     requires view { IsView setting.matrix.now view }
     requires history { IsHistory U.answer setting.program.now setting.graph.now (Some (view_arcs (task_in U.answer setting) before.0)) (number_of setting.rounds) history.now }
-    requires kept { IfSome kept (λ flags. flags.items ≡ flags_of setting.matrix.now before.0) }
+    requires kept { IfSome kept.now (λ flags. flags.items ≡ flags_of setting.matrix.now before.0) }
+    ensures step { IfOk result (λ made. IsStep (task_in U.answer setting.entry) (Some before.0) view.0 made.0) }
+    ensures flags { IfOk result (λ made. made.1.items ≡ flags_of setting.entry.matrix.now view.0) }
+    ensures kernel { OnOk result (IsKernel setting.entry.graph.now kernel.new) }
+    ensures rows { kernel.new.rows ≡ kernel.old.rows }
+    ensures calls { IfOk result (λ made. U.calls updater.new ≡ U.calls updater.old + made.0.work) }
+{
+    match kept {
+        Some(flags) => step_behind(
+            alloc, setting, kernel, before, history, flags, view, updater,
+        ),
+        None => {
+            let flags = setting.matrix.flags(alloc, before)?;
+            step_behind(
+                alloc, setting, kernel, before, history, &flags, view, updater,
+            )
+        }
+    }
+}
+
+// Steps a view behind another one, given the history of that one and its flags.
+fn step_behind<U: Updater>(
+    alloc: Global,
+    setting: Setting<'_>,
+    kernel: &mut Kernel,
+    before: ViewNo,
+    history: &History,
+    old: &[bool],
+    view: ViewNo,
+    updater: &mut U,
+) -> Result<(Stepped, Vec<bool>), NoMemory>
+    requires setting { IsSetting setting kernel.old }
+    requires before { IsView setting.matrix.now before }
+    requires view { IsView setting.matrix.now view }
+    requires history { IsHistory U.answer setting.program.now setting.graph.now (Some (view_arcs (task_in U.answer setting) before.0)) (number_of setting.rounds) history.now }
+    requires old { old.now ≡ flags_of setting.matrix.now before.0 }
     ensures step { IfOk result (λ made. IsStep (task_in U.answer setting.entry) (Some before.0) view.0 made.0) }
     ensures flags { IfOk result (λ made. made.1.items ≡ flags_of setting.entry.matrix.now view.0) }
     ensures kernel { OnOk result (IsKernel setting.entry.graph.now kernel.new) }
@@ -79,15 +114,14 @@ pub(crate) fn step_later<U: Updater>(
     let turned = turned_edges(alloc, setting.matrix, before, view)?;
     let twice = setting.matrix.size(before) + setting.matrix.size(view) + turned.len() as u64;
     let few = are_few(setting.graph, twice / 2);
-    let old = known_flags(alloc, setting.matrix, kept, before)?;
-    let new = turned_flags(alloc, &old, turned.as_slice())?;
+    let new = turned_flags(alloc, old, turned.as_slice())?;
     let stepped = next_within(
         alloc,
         setting,
         kernel,
         few,
         history,
-        &old,
+        old,
         &new,
         turned.as_slice(),
         updater,

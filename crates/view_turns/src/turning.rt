@@ -73,7 +73,7 @@ fn turn_next<U: Updater>(
     requires engine { IsEngine engine.old }
     requires fresh { engine.old.spent ≡ false }
     requires stands { Stands U.answer matrix.now engine.old }
-    ensures engine { OnOk result (IsEngine engine.new) }
+    ensures engine { IsEngine engine.new }
     ensures fresh { OnOk result (engine.new.spent ≡ false) }
     ensures stands { OnOk result (Stands U.answer matrix.now engine.new) }
     ensures moved { result ≡ Ok Turn.Moved → HasTurned (next_segment draws.old engine.old) engine.old engine.new (U.calls updater.old) (U.calls updater.new) }
@@ -100,7 +100,7 @@ pub fn finish<U: Updater>(
     requires engine { IsEngine engine.old }
     requires fresh { engine.old.spent ≡ false }
     requires stands { Stands U.answer matrix.now engine.old }
-    ensures engine { OnOk result (IsEngine engine.new) }
+    ensures engine { IsEngine engine.new }
     ensures fresh { OnOk result (engine.new.spent ≡ false) }
     ensures stands { OnOk result (Stands U.answer matrix.now engine.new) }
     ensures finished { OnOk result (AreFinished engine.new) }

@@ -17,7 +17,7 @@ loop-turn-preserved g c =
     let new = c.turn_next.new.engine in
     let so_far = c.loop-turn.invariant in
     record {
-      engine = ensures.engine;
+      engine = c.turn_next.ensures.engine;
       fresh = ensures.fresh;
       stands = ensures.stands;
       run = run_on c.args.engine.now old new so_far.run turn.moved.run;

@@ -1,21 +1,17 @@
 -- The view is stepped, and its answer kept.
-use Rattle.std.proofs.Common.{◌≡◌, ◌≢◌, ◌≤◌, refl, sym, ap, ◌∙◌, subst, All, List, map, length, arith, Some}
+use Rattle.std.proofs.Common.{◌≢◌, ◌≤◌, refl, sym, ap, ◌∙◌, subst, All, length, length-set, set, arith, Some}
 use Rattle.std.specs.Vec.{with_item}
-use Rattle.graph_model.specs.declared.number.NodeNo.{NodeNo}
-use Rattle.graph_model.specs.declared.value.Val.{Val}
 use Rattle.view_matrix.specs.Matrices.{IsView}
-use Rattle.result_tables.specs.Results.{IsChange, with_answer}
 use Rattle.arc_rows.specs.declared.rows.Rows.{Rows}
 use Rattle.arc_rows.specs.RowLists.{AreOfAll}
 use Rattle.view_segment.specs.declared.segment.Segment.{Segment}
-use Rattle.view_segment.specs.Segments.{last_stepped}
+use Rattle.view_segment.specs.Segments.{last_stepped, taken_back}
 use Rattle.view_segment.specs.Tasks.{work_of}
-use Rattle.view_engine.specs.Engines.{IsSound, segments_in, task_of}
+use Rattle.view_engine.specs.Engines.{IsKernelOf, IsSound, segments_in, task_of}
 use Rattle.view_engine.proofs.Assigning.{views_within}
-use Rattle.view_engine.proofs.Beginning.{on_ok}
-use Rattle.view_engine.proofs.Keeping.{pair_of}
 use Rattle.view_engine.proofs.Moving.{at_of, is_new, is_before, is_change, engine_now, has_stepped, so_far_now}
 use Rattle.view_engine.proofs.Putting.{all_at}
+use Rattle.view_engine.proofs.Refusing.{on_err, leads_back, still_before, taken_before, no_kernel, set_same, set_back}
 use Rattle.view_engine.proofs.engine.Engine.step.Goals as goal
 
 pub step-requires-clause-views : goal.step-requires-clause-views
@@ -34,24 +30,22 @@ step-requires-clause-unfinished g c =
     let other : length s.works ≢ length s.views = c.requires.unfinished s at in
     omega (arith, few, other)
 
-pub add_change-requires : goal.add_change-requires
-add_change-requires g c =
+pub hold-requires : goal.hold-requires
+hold-requires g c =
     let e = c.args.self.now in
     let s = c.index_mut.result.now in
     let m = c.args.matrix.now in
     let given = c.in_ok-given.given in
     let is = c.in_ok-given.ensures.given in
     let at = at_of (segments_in e) c.args.segment s c.requires.segment c.index_mut.ensures.value in
-    let told : c.deref.result.now ≡ map pair_of given.change = c.deref.ensures.value ∙ c.in_ok-change.ensures in
     record {
-      new = is_new g.U.Updater.answer m e c.requires.engine c.requires.stands c.args.segment s at given is;
-      before = is_before g.U.Updater.answer m e c.requires.engine c.requires.stands c.args.segment s at given is;
-      change = subst (λ (l : List (NodeNo × Val)). IsChange e.results given.before l) (sym told)
-          (is_change g.U.Updater.answer m e c.requires.engine c.requires.stands c.args.segment s at given is);
+      new = is_new g.U.Updater.answer m e c.requires.fresh c.requires.engine c.requires.stands c.args.segment s at given is;
+      before = is_before g.U.Updater.answer m e c.requires.fresh c.requires.engine c.requires.stands c.args.segment s at given is;
+      change = is_change g.U.Updater.answer m e c.requires.fresh c.requires.engine c.requires.stands c.args.segment s at given is;
     }
 
-pub returns : goal.returns
-returns g c =
+pub returns-in-Ok : goal.returns-in-Ok
+returns-in-Ok g c =
     let e = c.args.self.now in
     let s = c.index_mut.result.now in
     let t = c.step.new.self in
@@ -59,24 +53,61 @@ returns g c =
     let k = c.args.segment in
     let given = c.in_ok-given.given in
     let is = c.in_ok-given.ensures.given in
+    let fresh = c.requires.fresh in
     let engine = c.requires.engine in
     let stands = c.requires.stands in
     let at = at_of (segments_in e) k s c.requires.segment c.index_mut.ensures.value in
-    let told : c.deref.result.now ≡ map pair_of given.change = c.deref.ensures.value ∙ c.in_ok-change.ensures in
-    let same = ap (λ (l : List (NodeNo × Val)). with_answer e.results given.view given.before given.outcome l) told in
+    let kept = c.in-Ok.ensures.ok in
     let work = work_of (task_of g.U.Updater.answer m e) (last_stepped s) given.view.0 in
     let segments = with_item e.segments k t in
+    let kernel = Some c.step.new.kernel in
+    let ready : IsKernelOf e.graph.now e.program.now.along (Some c.step.new.kernel) = (c.in_ok-given.ensures.kernel, subst (λ (rows : Rows). AreOfAll e.program.now.along e.graph.now rows) (sym c.step.ensures.rows) c.in_ok-kernel.ensures.ready.1) in
     record {
-      engine = on_ok c.add_change.result
-          (λ kept. engine_now g.U.Updater.answer m e engine stands k s at given is t work c.in_ok-given.ensures.views c.in_ok-given.ensures.work c.in_ok-given.ensures.stands
-          segments (Some c.step.new.kernel) c.add_change.new.self refl (kept ∙ same) refl (c.in_ok-given.ensures.kernel, subst (λ (rows : Rows). AreOfAll e.program.now.along e.graph.now rows) (sym c.step.ensures.rows) c.in_ok-kernel.ensures.1))
-          c.add_change.ensures.ok;
-      moved = on_ok c.add_change.result
-          (λ kept. has_stepped g.U.Updater.answer m e engine stands k s at given is t work c.in_ok-given.ensures.views c.in_ok-given.ensures.work c.in_ok-given.ensures.stands
-          segments (Some c.step.new.kernel) c.add_change.new.self refl (kept ∙ same) (g.U.Counted.calls c.args.updater.now) (g.U.Counted.calls c.step.new.updater) c.in_ok-given.ensures.calls)
-          c.add_change.ensures.ok;
-      stands = on_ok c.add_change.result
-          (λ kept. so_far_now g.U.Updater.answer m e engine stands k s at given is t work c.in_ok-given.ensures.views c.in_ok-given.ensures.work c.in_ok-given.ensures.stands
-          segments (Some c.step.new.kernel) c.add_change.new.self refl (kept ∙ same))
-          c.add_change.ensures.ok;
+      engine = engine_now g.U.Updater.answer m e fresh engine stands k s at given is t work c.in_ok-given.ensures.views c.in_ok-given.ensures.work c.in_ok-given.ensures.stands segments kernel c.hold.new.results refl kept refl ready;
+      moved = has_stepped g.U.Updater.answer m e fresh engine stands k s at given is t work c.in_ok-given.ensures.views c.in_ok-given.ensures.work c.in_ok-given.ensures.stands segments kernel c.hold.new.results refl kept
+          (g.U.Counted.calls c.args.updater.now) (g.U.Counted.calls c.step.new.updater) c.in_ok-given.ensures.calls;
+      stands = so_far_now g.U.Updater.answer m e fresh engine stands k s at given is t work c.in_ok-given.ensures.views c.in_ok-given.ensures.work c.in_ok-given.ensures.stands segments kernel c.hold.new.results refl kept;
+      back = leads_back e k s t given.kept work at c.in_ok-given.ensures.views c.in_ok-given.ensures.work is.kept segments kernel ready refl given c.hold.new.results kept;
+      err = tt;
     }
+
+pub returns-in_err-kernel-clause-err : goal.returns-in_err-kernel-clause-err
+returns-in_err-kernel-clause-err g c =
+    let e = c.args.self.now in
+    on_err c.from_residual.result (still_before e e.segments c.take_kernel.new.kernel refl (no_kernel e c.take_kernel.new.kernel c.take_kernel.ensures.taken))
+
+pub returns-in_err-given-clause-err : goal.returns-in_err-given-clause-err
+returns-in_err-given-clause-err g c =
+    let e = c.args.self.now in
+    let s = c.index_mut.result.now in
+    let k = c.args.segment in
+    let at = at_of (segments_in e) k s c.requires.segment c.index_mut.ensures.value in
+    on_err c.from_residual-in_err-given.result
+    (still_before e (with_item e.segments k c.step.new.self) c.take_kernel.new.kernel
+    (ap (λ (t : Segment). set (segments_in e) k t) c.in_err-given.ensures.err ∙ set_same (segments_in e) k s at) (no_kernel e c.take_kernel.new.kernel c.take_kernel.ensures.taken))
+
+pub take_back-requires : goal.take_back-requires
+take_back-requires g c =
+    let e = c.args.self.now in
+    let s = c.index_mut.result.now in
+    let t = c.step.new.self in
+    let u = c.index_mut-in-Err.result.now in
+    let k = c.args.segment in
+    let given = c.in_ok-given.given in
+    let at = at_of (segments_in e) k s c.requires.segment c.index_mut.ensures.value in
+    let now = at_of (set (segments_in e) k t) k u (omega (arith, c.requires.segment, length-set (segments_in e) k t)) c.index_mut-in-Err.ensures.value in
+    (set_back s t given.kept (work_of (task_of g.U.Updater.answer c.args.matrix.now e) (last_stepped s) given.view.0) c.in_ok-given.ensures.views c.in_ok-given.ensures.work c.in_ok-given.ensures.given.kept (segments_in e) k u at now).0
+
+pub returns-clause-err : goal.returns-clause-err
+returns-clause-err g c =
+    let e = c.args.self.now in
+    let s = c.index_mut.result.now in
+    let t = c.step.new.self in
+    let u = c.index_mut-in-Err.result.now in
+    let k = c.args.segment in
+    let given = c.in_ok-given.given in
+    let at = at_of (segments_in e) k s c.requires.segment c.index_mut.ensures.value in
+    let now = at_of (set (segments_in e) k t) k u (omega (arith, c.requires.segment, length-set (segments_in e) k t)) c.index_mut-in-Err.ensures.value in
+    let ready : IsKernelOf e.graph.now e.program.now.along (Some c.step.new.kernel) = (c.in_ok-given.ensures.kernel, subst (λ (rows : Rows). AreOfAll e.program.now.along e.graph.now rows) (sym c.step.ensures.rows) c.in_ok-kernel.ensures.ready.1) in
+    taken_before e k s t given.kept (work_of (task_of g.U.Updater.answer c.args.matrix.now e) (last_stepped s) given.view.0) at c.in_ok-given.ensures.views c.in_ok-given.ensures.work c.in_ok-given.ensures.given.kept
+    (with_item (with_item e.segments k t) k c.take_back.new.self) (Some c.step.new.kernel) ready u now (ap (λ (x : Segment). set (set (segments_in e) k t) k x) {y = taken_back u given.kept} c.take_back.ensures) c.hold.new.results c.in-Err.ensures.err
