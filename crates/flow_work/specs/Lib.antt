@@ -4,3 +4,6 @@ pub mod TurnLaws
 pub mod Values
 pub mod Inner
 pub mod InnerLaws
+pub mod Shadow
+pub mod Starts
+pub mod StartLaws

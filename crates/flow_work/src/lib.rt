@@ -6,11 +6,16 @@
 //! that time behind the view at the seal, each pair of a node and a round that the work counts being one evaluation
 //! (`specs/Turns`). Where a view was fed, each node inside was fed its inputs ([`inner_is_fed_inputs`], `specs/Inner`).
 //! And any operator of the function of such a dataflow makes, where it was fed a view, the values of the plain run
-//! after each round ([`makes_values`], `specs/Values`).
+//! after each round ([`makes_values`], `specs/Values`). The same holds of one whose nodes start with values that it is fed, of
+//! rounds that begin with these ([`makes_starts`], [`loop_is_from_starts`], [`inner_is_fed_from_starts`], `specs/Starts`).
 #![tactic(auto)]
 
 mod laws;
+mod starts;
 mod values;
 
 pub use laws::{inner_is_fed_inputs, turn_is_work};
+pub use starts::{
+    inner_is_fed_from_starts, loop_is_from_starts, makes_starts, rounds_are_from_starts,
+};
 pub use values::makes_values;

@@ -7,6 +7,7 @@ ghost use Rattle.reduce_theory.specs.ByKey.{reduce_apply};
 ghost use Rattle.vertex_items.specs.Given.{node_gives};
 ghost use Rattle.view_items.specs.Collections.{items};
 ghost use Rattle.view_items.specs.Rounds.{round_of};
+ghost use Rattle.flow_work.specs.Starts.{start_parts};
 ghost use Rattle.flow_work.specs.Values.{flow_apply, flow_parts, start_apply};
 
 use crate::items::{Items, items_of};
@@ -93,6 +94,7 @@ pub fn start_flow<'g, T: Time, U: Updater>(
     requires few { rounds ≤ 1_000_000 }
     ensures fresh { let it = ⟦<StartFlow<'g, T, U> as Operator<T, U>>⟧ in IsFresh it.stands it.due it.seal it.spent T.least result }
     ensures apply { ⟦<StartFlow<'g, T, U> as Operator<T, U>>⟧.apply result ≡ start_apply ⟦<NodeNo as Ord>⟧.cmp ⟦<Arc as Ord>⟧.cmp ⟦<NodeItem as Ord>⟧.cmp U.answer program.now graph.now rounds }
+    ensures kept { start_parts ⟦<NodeNo as Ord>⟧.cmp ⟦<Arc as Ord>⟧.cmp ⟦<NodeItem as Ord>⟧.cmp U.answer program.now graph.now rounds ≡ ⟦<StartFlow<'g, T, U> as Operator<T, U>>⟧.kept result }
     ensures charge { ⟦<StartFlow<'g, T, U> as Operator<T, U>>⟧.charge result ≡ 0 }
 {
     let prep: StartPrep<'g, T> = start_prep(alloc, graph, program);
@@ -103,6 +105,13 @@ pub fn start_flow<'g, T: Time, U: Updater>(
 /// How many times a node was evaluated so far, modulo 2^64: the low bits of what is charged. It takes no memory.
 pub fn evaluations<'g, T: Time, U: Updater>(flow: &VertexFlow<'g, T, U>) -> u64
     ensures { result ≡ ⟦<VertexFlow<'g, T, U> as Operator<T, U>>⟧.charge flow.now % 2 ^ 64 }
+{
+    flow.second().body().second().evaluations()
+}
+
+/// The same of a dataflow from starts that are given.
+pub fn start_evaluations<'g, T: Time, U: Updater>(flow: &StartFlow<'g, T, U>) -> u64
+    ensures { result ≡ ⟦<StartFlow<'g, T, U> as Operator<T, U>>⟧.charge flow.now % 2 ^ 64 }
 {
     flow.second().body().second().evaluations()
 }

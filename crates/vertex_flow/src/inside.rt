@@ -5,17 +5,20 @@ ghost use Rattle.flow_core.specs.Runs.{Run};
 ghost use Rattle.graph_model.specs.GraphData.{GraphData};
 ghost use Rattle.vertex_lang.specs.declared.program.Program.{Program};
 ghost use Rattle.flow_work.specs.Inner.{InnerRun};
+ghost use Rattle.flow_work.specs.Starts.{InnerFromStarts, start_parts};
 ghost use Rattle.flow_work.specs.Turns.{ChargesWork};
 ghost use Rattle.flow_work.specs.Values.{flow_parts};
 
-use crate::flow::{OneRound, VertexFlow};
-use crate::prep::FlowPrep;
+use crate::flow::{OneRound, StartFlow, VertexFlow};
+use crate::prep::{FlowPrep, StartPrep};
 use flow_core::Operator;
-use flow_work::{inner_is_fed_inputs, turn_is_work};
+use flow_work::{inner_is_fed_from_starts, inner_is_fed_inputs, turn_is_work};
 use graph_model::{NodeNo, Val};
 use keyed_loop::{body_inside, loop_inside};
 use lattice_time::{Pair, Round, Time};
-use vertex_items::{FixedItem, FlowInput, NodeItem, items_are_ordered, records_are_ordered};
+use vertex_items::{
+    FixedItem, FlowInput, NodeItem, StartInput, items_are_ordered, records_are_ordered,
+};
 use vertex_lang::{Arc, Updater};
 
 /// Does nothing, and tells contracts of a dataflow in hand, whose parts have the functions of a program over a graph
@@ -45,6 +48,29 @@ pub fn inner_run<'g, T: Time, U: Updater>(flow: &VertexFlow<'g, T, U>)
     inner_is_fed_inputs::<T>();
     turn_is_work::<T>();
     records_are_ordered::<Pair<T, Round>>();
+    records_are_ordered::<NodeNo>();
+    records_are_ordered::<Arc>();
+    items_are_ordered();
+}
+
+/// The same of a dataflow from starts that are given: where what was fed is one start a node and the arcs of a view, each node was
+/// fed its input in each round from these starts. It takes no memory.
+pub fn start_run<'g, T: Time, U: Updater>(flow: &StartFlow<'g, T, U>)
+    ensures { let it = ⟦<StartFlow<'g, T, U> as Operator<T, U>>⟧ in (p : Program) (graph : GraphData) (rounds : ℕ) → start_parts ⟦<NodeNo as Ord>⟧.cmp ⟦<Arc as Ord>⟧.cmp ⟦<NodeItem as Ord>⟧.cmp U.answer p graph rounds ≡ it.kept flow.now → (run : Run T StartInput (Round × (NodeNo × Val))) → it.stands flow.now run → InnerFromStarts T.leq T.lub ⟦<Pair<T, Round> as Ord>⟧.cmp ⟦<NodeNo as Ord>⟧.cmp ⟦<NodeItem as Ord>⟧.cmp U.answer p graph rounds (it.seal flow.now) (it.due flow.now) (it.charge flow.now) run }
+{
+    let body: &OneRound<'g, Pair<T, Round>, U> = flow.second().body();
+    body_inside(body);
+    loop_inside::<
+        T,
+        U,
+        FixedItem,
+        NodeNo,
+        NodeItem,
+        Val,
+        StartPrep<'g, T>,
+        OneRound<'g, Pair<T, Round>, U>,
+    >(flow, body);
+    inner_is_fed_from_starts::<T>();
     records_are_ordered::<NodeNo>();
     records_are_ordered::<Arc>();
     items_are_ordered();
