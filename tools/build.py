@@ -156,8 +156,8 @@ class Lane:
     def out(self, name):
         return f"{self.folder}/crates/{name}/out"
 
-    def begin(self, room, processes):
-        """Begins the proof of a room, with what an earlier one kept."""
+    def begin(self, room, processes, patience):
+        """Begins the proof of a room, with what an earlier one kept. The more patience, the more it lets the others go first."""
         self.room, self.processes = room, processes
         for it in all_below(self.rooms, room):
             if not os.path.isdir(f"{self.out(it)}/rlib"):
@@ -169,7 +169,7 @@ class Lane:
         self.log = tempfile.TemporaryFile("w+", errors="replace")
         how = {"stdin": subprocess.DEVNULL, "stdout": self.log, "stderr": self.log, "start_new_session": True}
         words = ["rt", "lib", "--jobs", str(processes)]
-        self.ran = subprocess.Popen(words, cwd=f"{self.folder}/crates/{room}", **how)
+        self.ran = subprocess.Popen(words, cwd=f"{self.folder}/crates/{room}", preexec_fn=lambda: wait_for_others(patience), **how)
 
     def end(self):
         """Hands on what was proved and kept. Raises Failed where the room was not proved."""
@@ -185,6 +185,13 @@ class Lane:
         moved(f"{self.out(self.room)}/incremental", f"{TOP}/crates/{self.room}/out/incremental")
         self.room = None
 
+
+def wait_for_others(patience):
+    """Has this process, and what it begins, leave the processors to others that want them, by a nice value."""
+    os.nice(patience)
+    # (where the kernel gives each session the same share, however many processes it has, what counts is the session's own value)
+    with contextlib.suppress(OSError), open("/proc/self/autogroup", "w", encoding="utf-8") as it:
+        it.write(str(patience))
 
 
 def end_all(commands):
@@ -254,9 +261,14 @@ class Build:
         free = self.lane_count - sum(it.processes for it in self.running())
         left = sum(self.minutes[it] for it in [*self.waiting, *[it.room for it in self.running()]])
         way = self.ways[room]
-        wanted = int(self.lane_count * way / max(left, way) + 0.25)
+        wanted = int(self.lane_count * way / max(left, way))
         spare = free - (len(ready) - 1) if at == 0 else 1
         return max(1, min(max(wanted, spare), self.lane_count, MOST_PROCESSES))
+
+    def patience_for(self, room):
+        """Returns the nice value of a room's proof, from 0 where its way is the longest to 10: the longest way decides when the program is there."""
+        longest = max(self.ways[it] for it in [room, *self.waiting, *[it.room for it in self.running()]])
+        return round(10 * (1 - self.ways[room] / longest))
 
     def begin_ready(self):
         """Begins each room whose libraries are proved, those with the longest way first, as many as there are lanes."""
@@ -264,9 +276,9 @@ class Build:
         for at, room in enumerate(ready):
             if len(self.running()) >= self.lane_count:
                 return
-            processes = self.processes_for(room, at, ready)
+            processes, patience = self.processes_for(room, at, ready), self.patience_for(room)
             self.waiting.remove(room)
-            self.lane().begin(room, processes)
+            self.lane().begin(room, processes, patience)
 
     def lane(self):
         idle = next((it for it in self.lanes if not it.room), None)
