@@ -18,7 +18,7 @@ use flow_core::Operator;
 use flow_rows::{take_seal, take_step};
 use graph_model::{EdgeNo, Graph, NodeNo, Val};
 use lattice_time::{Position, Time};
-use round_kernel::{Kernel, Stepped, first_step, next_step};
+use round_kernel::{Behind, Kernel, Plan, Stepped};
 use std::alloc::Global;
 use surge_outside::{List, NoMemory};
 use vertex_items::FlowInput;
@@ -105,18 +105,18 @@ fn next_by_kernel<U: Updater>(
         (Some (arcs_in kernel.old.rows.by_head new.now)) rounds s.history) }
 {
     let edges = all_edges(alloc, graph)?;
-    next_step(
-        alloc,
+    let plan = Plan {
         program,
         graph,
-        kernel,
+        rounds: Rounds::Within(rounds),
+    };
+    let behind = Behind {
         history,
         old,
         new,
-        &edges,
-        Rounds::Within(rounds),
-        updater,
-    )
+        turned: &edges,
+    };
+    kernel.next_step(alloc, plan, behind, u64::from(graph.edge_count()), updater)
 }
 
 /// Steps the dataflow to a view, and answers whether it changes the values that the kernel changes.
@@ -261,8 +261,13 @@ fn first_view<U: Updater, O: Operator<Position, U, Input = FlowInput, Output = M
         (Some (arcs_in kernel.old.rows.by_head s.flags.items)) rounds s.history)) }
 {
     let flags = flags(alloc, graph, bits)?;
-    let limit = Rounds::Within(rounds);
-    let stepped = first_step(alloc, program, graph, kernel, &flags, limit, updater)?;
+    let plan = Plan {
+        program,
+        graph,
+        rounds: Rounds::Within(rounds),
+    };
+    let count = u64::from(graph.edge_count());
+    let stepped = kernel.first_step(alloc, plan, &flags, count, updater)?;
     let arcs = arcs_at(alloc, graph, program.along, bits)?;
     let fed = delta(alloc, graph, None, arcs.as_slice())?;
     let t = Position(1);
