@@ -27,6 +27,7 @@ pub(crate) struct Setting<'a> {
 }
 
 /// The view that was stepped last: its history, and its flags where they are kept.
+#[derive(Drop)]
 pub(crate) struct Before<'a> {
     pub(crate) view: ViewNo,
     pub(crate) history: &'a History,
