@@ -1,8 +1,10 @@
-use Rattle.std.proofs.Common.{◌≡◌, ◌∙◌, ◌<◌, ◌-◌, suc, false, sym, subst, refl, List, length, arith}
+use Rattle.std.proofs.Common.{◌≡◌, ◌∙◌, ◌<◌, ◌-◌, suc, false, sym, ap, subst, refl, List, length, get_or, arith}
 use Rattle.std.specs.Prelude.{All, ◌==◌, not}
 use Rattle.std.proofs.lemmas.List.Elements.{All-filter, All-weaker}
 use Rattle.vertex_lang.specs.declared.arc.Arc.{Arc}
 use Rattle.vertex_lang.specs.Arcs.{IsArc}
+use Rattle.graph_model.specs.declared.value.Val.{Val}
+use Rattle.vertex_lang.specs.Expressions.{sent_by}
 use Rattle.lone_work.specs.Inputs.{got_values}
 use Rattle.vertex_lang.specs.Lone.{same_value}
 use Rattle.vertex_lang.specs.Rounds.{value_at}
@@ -12,7 +14,7 @@ use Rattle.round_messages.specs.Sides.{all_brought}
 use Rattle.round_inputs.specs.BroughtLaws.{brought-is, brought-row}
 use Rattle.round_inputs.specs.InputLaws.{some-is}
 use Rattle.round_kernel.proofs.Visits.{marked-first, marked-own, marked-got}
-use Rattle.round_kernel.proofs.Stillness.{itself, own-same, same-rounds}
+use Rattle.round_kernel.proofs.Stillness.{itself, own-same, same-rounds, values-same}
 use Rattle.round_kernel.proofs.visit.is_other_input.Goals as goal
 use Rattle.round_kernel.proofs.visit.is_other_input.Goals.{else-moves-via-then-moves+else-is_other, else-moves-via-else-moves}
 
@@ -24,6 +26,26 @@ returns-then-is_other g c =
     let r = c.args.spot.now.new.number in
     let at : r ≡ suc (r - 1) = omega arith in
     marked-own g.U.Updater.answer c.args.spot.now.new.program.now c.args.spot.now.new.graph.now (arcs_in c.args.spot.now.new.rows.now.by_head c.args.spot.now.new.side.edges.now) c.args.spot.now.node.0 r (r - 1) at c.args.spot.now.new.side.values.now c.args.spot.now.before.now c.is_other.result c.requires.round.stands.values_are c.requires.before.values_are c.is_other.ensures c.if-is_other.true
+
+pub differ_if_listed-requires-clause-rounds : goal.differ_if_listed-requires-clause-rounds
+differ_if_listed-requires-clause-rounds g c =
+    let answer = g.U.Updater.answer in
+    let spot = c.args.spot.now in
+    let p = spot.new.program.now in
+    let graph = spot.new.graph.now in
+    let all = spot.new.rows.now.by_head in
+    let side = spot.new.side in
+    let r = spot.new.number in
+    let later : 0 < r = omega arith in
+    record {
+      checked = c.requires.round.checked;
+      left = record { sized = c.requires.round.stands.sized; sent = c.requires.round.sent };
+      right = c.requires.before.sized;
+      movers = λ u low. omega (arith, low, c.requires.lookups.suspects.moved_size, c.deref.ensures.len);
+      still = λ u e low calm. ap (λ (x : Val). sent_by p graph u x (get_or side.degrees.now u 0) e)
+          (values-same answer p graph all spot.first spot.old.edges.now side.edges.now r spot.lookups.now.suspects c.requires.lookups.suspects c.requires.round.rows.arcs spot.node.0 later c.deref.result.now c.stamp_of.result c.deref.ensures.value c.stamp_of.ensures
+          u low calm side.values.now spot.before.now c.requires.round.stands.values_are c.requires.before.values_are);
+    }
 
 pub returns-in-Some : goal.returns-in-Some
 returns-in-Some g c =
@@ -82,6 +104,26 @@ returns-then-are_still g c =
     refl refl own refl
     (itself now before (same-rounds answer p graph all c.args.spot.now.first c.args.spot.now.old.edges.now new.edges.now r suspects c.requires.lookups.suspects c.requires.round.rows.arcs v later c.deref.result.now c.stamp_of.result c.deref.ensures.value c.stamp_of.ensures
     c.into-row.result.now c.into-row.ensures (c.are_still.ensures c.if-are_still.true)))
+
+pub differ-requires-clause-rounds : goal.differ-requires-clause-rounds
+differ-requires-clause-rounds g c =
+    let answer = g.U.Updater.answer in
+    let spot = c.args.spot.now in
+    let p = spot.new.program.now in
+    let graph = spot.new.graph.now in
+    let all = spot.new.rows.now.by_head in
+    let side = spot.new.side in
+    let r = spot.new.number in
+    let later : 0 < r = omega arith in
+    record {
+      checked = c.requires.round.checked;
+      left = record { sized = c.requires.round.stands.sized; sent = c.requires.round.sent };
+      right = c.requires.before.sized;
+      movers = λ u low. omega (arith, low, c.requires.lookups.suspects.moved_size, c.deref.ensures.len);
+      still = λ u e low calm. ap (λ (x : Val). sent_by p graph u x (get_or side.degrees.now u 0) e)
+          (values-same answer p graph all spot.first spot.old.edges.now side.edges.now r spot.lookups.now.suspects c.requires.lookups.suspects c.requires.round.rows.arcs spot.node.0 later c.deref.result.now c.stamp_of.result c.deref.ensures.value c.stamp_of.ensures
+          u low calm side.values.now spot.before.now c.requires.round.stands.values_are c.requires.before.values_are);
+    }
 
 pub differ-requires-clause-row : goal.differ-requires-clause-row
 differ-requires-clause-row g c = subst (λ (xs : List Arc). All (IsArc c.args.spot.now.new.graph.now) xs) (sym c.into-row.ensures) (All-filter (λ (a : Arc). a.head.0 == c.args.spot.now.node.0) (IsArc c.args.spot.now.new.graph.now) c.args.spot.now.new.rows.now.by_head c.requires.round.rows.arcs)

@@ -21,14 +21,21 @@ use Rattle.round_kernel.proofs.visit.is_touched.Goals as goal
 pub returns-then-either : goal.returns-then-either
 returns-then-either g c = touched-yes g.U.Updater.answer c.args.spot.now.new.program.now c.args.spot.now.new.graph.now c.args.spot.now.new.rows.now.by_head c.args.spot.now.old.edges.now c.args.spot.now.new.side.edges.now c.args.spot.now.node.0 c.args.spot.now.new.number c.args.spot.now.first c.args.spot.now.was c.requires.was (sym c.either.ensures ∙ c.if-either.true)
 
-pub differ_if_listed-requires-clause-still : goal.differ_if_listed-requires-clause-still
-differ_if_listed-requires-clause-still g c = λ u e low apart.
+pub differ_if_listed-requires-clause-rounds : goal.differ_if_listed-requires-clause-rounds
+differ_if_listed-requires-clause-rounds g c =
     let one : c.args.spot.now.first ≡ false = or-first c.args.spot.now.first c.args.spot.now.was (sym c.either.ensures ∙ c.if-either.false) in
     let new = c.args.spot.now.new.side in
     let old = c.args.spot.now.old in
-    sent-under g.U.Updater.answer c.args.spot.now.new.program.now c.args.spot.now.new.graph.now c.args.spot.now.new.rows.now.by_head new.edges.now new.degrees.now new.values.now c.args.spot.now.new.number c.requires.round.stands u e low
-    ∙ c.requires.lookups.suspects.apart one u e low (ap (λ (bs : List Bool). get_or bs u false) (sym c.deref.ensures.value) ∙ apart)
-    ∙ sym (sent-under g.U.Updater.answer c.args.spot.now.new.program.now c.args.spot.now.new.graph.now c.args.spot.now.new.rows.now.by_head old.edges.now old.degrees.now old.values.now c.args.spot.now.new.number (c.requires.old one) u e low)
+    record {
+      checked = c.requires.round.checked;
+      left = record { sized = c.requires.round.stands.sized; sent = c.requires.round.sent };
+      right = (c.requires.old one).sized;
+      movers = λ u low. omega (arith, low, c.requires.lookups.suspects.apart_size, c.deref.ensures.len);
+      still = λ u e low apart.
+        sent-under g.U.Updater.answer c.args.spot.now.new.program.now c.args.spot.now.new.graph.now c.args.spot.now.new.rows.now.by_head new.edges.now new.degrees.now new.values.now c.args.spot.now.new.number c.requires.round.stands u e low
+        ∙ c.requires.lookups.suspects.apart one u e low (ap (λ (bs : List Bool). get_or bs u false) (sym c.deref.ensures.value) ∙ apart)
+        ∙ sym (sent-under g.U.Updater.answer c.args.spot.now.new.program.now c.args.spot.now.new.graph.now c.args.spot.now.new.rows.now.by_head old.edges.now old.degrees.now old.values.now c.args.spot.now.new.number (c.requires.old one) u e low);
+    }
 
 pub differ_if_listed-requires-clause-turned : goal.differ_if_listed-requires-clause-turned
 differ_if_listed-requires-clause-turned g c =
@@ -83,14 +90,21 @@ returns-then-are_still g c =
 pub differ-requires-clause-row : goal.differ-requires-clause-row
 differ-requires-clause-row g c = subst (λ (xs : List Arc). All (IsArc c.args.spot.now.new.graph.now) xs) (sym c.into-row.ensures) (All-filter (λ (a : Arc). a.head.0 == c.args.spot.now.node.0) (IsArc c.args.spot.now.new.graph.now) c.args.spot.now.new.rows.now.by_head c.requires.round.rows.arcs)
 
-pub differ-requires-clause-still : goal.differ-requires-clause-still
-differ-requires-clause-still g c = λ u e low apart.
+pub differ-requires-clause-rounds : goal.differ-requires-clause-rounds
+differ-requires-clause-rounds g c =
     let one : c.args.spot.now.first ≡ false = or-first c.args.spot.now.first c.args.spot.now.was (sym c.either.ensures ∙ c.if-either.false) in
     let new = c.args.spot.now.new.side in
     let old = c.args.spot.now.old in
-    sent-under g.U.Updater.answer c.args.spot.now.new.program.now c.args.spot.now.new.graph.now c.args.spot.now.new.rows.now.by_head new.edges.now new.degrees.now new.values.now c.args.spot.now.new.number c.requires.round.stands u e low
-    ∙ c.requires.lookups.suspects.apart one u e low (ap (λ (bs : List Bool). get_or bs u false) (sym c.deref.ensures.value) ∙ apart)
-    ∙ sym (sent-under g.U.Updater.answer c.args.spot.now.new.program.now c.args.spot.now.new.graph.now c.args.spot.now.new.rows.now.by_head old.edges.now old.degrees.now old.values.now c.args.spot.now.new.number (c.requires.old one) u e low)
+    record {
+      checked = c.requires.round.checked;
+      left = record { sized = c.requires.round.stands.sized; sent = c.requires.round.sent };
+      right = (c.requires.old one).sized;
+      movers = λ u low. omega (arith, low, c.requires.lookups.suspects.apart_size, c.deref.ensures.len);
+      still = λ u e low apart.
+        sent-under g.U.Updater.answer c.args.spot.now.new.program.now c.args.spot.now.new.graph.now c.args.spot.now.new.rows.now.by_head new.edges.now new.degrees.now new.values.now c.args.spot.now.new.number c.requires.round.stands u e low
+        ∙ c.requires.lookups.suspects.apart one u e low (ap (λ (bs : List Bool). get_or bs u false) (sym c.deref.ensures.value) ∙ apart)
+        ∙ sym (sent-under g.U.Updater.answer c.args.spot.now.new.program.now c.args.spot.now.new.graph.now c.args.spot.now.new.rows.now.by_head old.edges.now old.degrees.now old.values.now c.args.spot.now.new.number (c.requires.old one) u e low);
+    }
 
 pub differ-requires-clause-turned : goal.differ-requires-clause-turned
 differ-requires-clause-turned g c =
