@@ -3,11 +3,13 @@
 ghost use Rattle.std.specs.Prelude.{◌≡◌, ◌<◌, ◌≤◌, Bool, List, Some, length, All, IfOk, OnOk};
 ghost use Rattle.std.specs.Option.{IfSome};
 ghost use Rattle.vertex_lang.specs.Leaves.{IsChecked};
+ghost use Rattle.vertex_lang.specs.Lone.{number_of};
 ghost use Rattle.flow_core.specs.Runs.{IsFresh};
 ghost use Rattle.flow_rows.specs.Driven.{Drives};
 ghost use Rattle.arc_rows.specs.Views.{arcs_in};
 ghost use Rattle.round_kernel.specs.Histories.{IsHistory};
 ghost use Rattle.round_kernel.specs.Kernels.{IsKernel};
+ghost use Rattle.round_kernel.specs.Plans.{MayRun};
 ghost use Rattle.arc_rows.specs.Views.{TellsAll};
 ghost use Rattle.arc_rows.specs.RowLists.{AreAlong};
 
@@ -81,42 +83,33 @@ struct Stood {
 /// Steps a view behind another one by the kernel.
 fn next_by_kernel<U: Updater>(
     alloc: Global,
-    program: &Program,
-    graph: &Graph,
+    plan: Plan<'_>,
     kernel: &mut Kernel,
     history: &History,
     old: &[bool],
     new: &[bool],
-    rounds: u32,
     updater: &mut U,
 ) -> Result<Stepped, NoMemory>
-    requires checked { IsChecked program.now graph.now }
-    requires kernel { IsKernel graph.now kernel.old }
-    requires along { AreAlong program.now.along graph.now kernel.old.rows }
-    requires old { length old.now ≡ length graph.now.ends }
-    requires new { length new.now ≡ length graph.now.ends }
-    requires some { 1 ≤ rounds }
-    requires limit { rounds ≤ 1_000_000 }
-    requires history { IsHistory U.answer program.now graph.now
-        (Some (arcs_in kernel.old.rows.by_head old.now)) rounds history.now }
-    ensures kernel { OnOk result (IsKernel graph.now kernel.new) }
+    requires plan { MayRun plan kernel.old }
+    requires along { AreAlong plan.program.now.along plan.graph.now kernel.old.rows }
+    requires old { length old.now ≡ length plan.graph.now.ends }
+    requires new { length new.now ≡ length plan.graph.now.ends }
+    requires history { IsHistory U.answer plan.program.now plan.graph.now
+        (Some (arcs_in kernel.old.rows.by_head old.now)) (number_of plan.rounds) history.now }
+    ensures kernel { OnOk result (IsKernel plan.entry.graph.now kernel.new) }
     ensures rows { kernel.new.rows ≡ kernel.old.rows }
-    ensures history { IfOk result (λ s. IsHistory U.answer program.now graph.now
-        (Some (arcs_in kernel.old.rows.by_head new.now)) rounds s.history) }
+    ensures history { IfOk result (λ s. IsHistory U.answer plan.entry.program.now plan.entry.graph.now
+        (Some (arcs_in kernel.old.rows.by_head new.now)) (number_of plan.entry.rounds) s.history) }
 {
-    let edges = all_edges(alloc, graph)?;
-    let plan = Plan {
-        program,
-        graph,
-        rounds: Rounds::Within(rounds),
-    };
+    let edges = all_edges(alloc, plan.graph)?;
+    let count = u64::from(plan.graph.edge_count());
     let behind = Behind {
         history,
         old,
         new,
         turned: &edges,
     };
-    kernel.next_step(alloc, plan, behind, u64::from(graph.edge_count()), updater)
+    kernel.next_step(alloc, plan, behind, count, updater)
 }
 
 /// Steps the dataflow to a view, and answers whether it changes the values that the kernel changes.
@@ -174,9 +167,12 @@ fn later_view<U: Updater, O: Operator<Position, U, Input = FlowInput, Output = M
 {
     let flags = flags(alloc, graph, bits)?;
     let history = &old.history;
-    let stepped = next_by_kernel(
-        alloc, program, graph, kernel, history, &old.flags, &flags, rounds, updater,
-    )?;
+    let plan = Plan {
+        program,
+        graph,
+        rounds: Rounds::Within(rounds),
+    };
+    let stepped = next_by_kernel(alloc, plan, kernel, history, &old.flags, &flags, updater)?;
     let arcs = arcs_at(alloc, graph, program.along, bits)?;
     let fed = delta(alloc, graph, Some(old.arcs.as_slice()), arcs.as_slice())?;
     let change = stepped.change.as_slice();
