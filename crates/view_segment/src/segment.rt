@@ -11,7 +11,7 @@ ghost use Rattle.view_segment.specs.Tasks.{task_over, work_of};
 ghost use Rattle.view_segment.specs.Segments.{last_stepped, place_of, taken_back, SegmentStands, IsGiven};
 ghost use Rattle.view_segment.specs.Steps.{IsSetting, IsStep, flags_of, task_in};
 
-use crate::step::{Setting, step_first, step_later};
+use crate::step::{Before, Setting, step_first, step_later};
 use change_lists::{Change, History};
 use graph_model::{Graph, ViewNo};
 use round_kernel::{Kernel, Stepped};
@@ -200,16 +200,12 @@ impl Segment {
             }
             Some(history) => {
                 let before = self.views.as_slice()[self.works.len() - 1];
-                let (stepped, flags) = step_later(
-                    alloc,
-                    setting,
-                    kernel,
-                    before,
+                let last = Before {
+                    view: before,
                     history,
-                    &self.flags,
-                    view,
-                    updater,
-                )?;
+                    flags: &self.flags,
+                };
+                let (stepped, flags) = step_later(alloc, setting, kernel, last, view, updater)?;
                 Ok((Some(before), stepped, flags))
             }
         }
