@@ -10,19 +10,17 @@ ghost use Rattle.view_segment.specs.Steps.{IsSetting, IsStep, flags_of, task_in}
 
 use crate::flags::{turned_edges, turned_flags};
 use change_lists::History;
-use graph_model::{Graph, ViewNo};
+use graph_model::ViewNo;
 use round_kernel::{Behind, Kernel, Plan, Stepped};
 use std::alloc::Global;
 use surge_outside::NoMemory;
-use vertex_lang::{Program, Rounds, Updater};
+use vertex_lang::Updater;
 use view_matrix::Matrix;
 
 /// What is the same for all views of a segment.
 #[derive(Clone, Copy)]
 pub(crate) struct Setting<'a> {
-    pub(crate) program: &'a Program,
-    pub(crate) graph: &'a Graph,
-    pub(crate) rounds: Rounds,
+    pub(crate) plan: Plan<'a>,
     pub(crate) matrix: &'a Matrix,
 }
 
@@ -46,18 +44,13 @@ pub(crate) fn step_first<U: Updater>(
     requires view { IsView setting.matrix.now view }
     ensures step { IfOk result (λ made. IsStep (task_in U.answer setting.entry) None view.0 made.0) }
     ensures flags { IfOk result (λ made. made.1.items ≡ flags_of setting.entry.matrix.now view.0) }
-    ensures kernel { OnOk result (IsKernel setting.entry.graph.now kernel.new) }
+    ensures kernel { OnOk result (IsKernel setting.entry.plan.graph.now kernel.new) }
     ensures rows { kernel.new.rows ≡ kernel.old.rows }
     ensures calls { IfOk result (λ made. U.calls updater.new ≡ U.calls updater.old + made.0.work) }
 {
-    let plan = Plan {
-        program: setting.program,
-        graph: setting.graph,
-        rounds: setting.rounds,
-    };
     let count = setting.matrix.size(view);
     let edges = setting.matrix.flags(alloc, view)?;
-    let stepped = kernel.first_step(alloc, plan, &edges, count, updater)?;
+    let stepped = kernel.first_step(alloc, setting.plan, &edges, count, updater)?;
     Ok((stepped, edges))
 }
 
@@ -73,11 +66,11 @@ pub(crate) fn step_later<U: Updater>(
     requires setting { IsSetting setting kernel.old }
     requires before { IsView setting.matrix.now before.view }
     requires view { IsView setting.matrix.now view }
-    requires history { IsHistory U.answer setting.program.now setting.graph.now (Some (view_arcs (task_in U.answer setting) before.view.0)) (number_of setting.rounds) before.history.now }
+    requires history { IsHistory U.answer setting.plan.program.now setting.plan.graph.now (Some (view_arcs (task_in U.answer setting) before.view.0)) (number_of setting.plan.rounds) before.history.now }
     requires kept { IfSome before.flags.now (λ flags. flags.items ≡ flags_of setting.matrix.now before.view.0) }
     ensures step { IfOk result (λ made. IsStep (task_in U.answer setting.entry) (Some before.entry.view.0) view.0 made.0) }
     ensures flags { IfOk result (λ made. made.1.items ≡ flags_of setting.entry.matrix.now view.0) }
-    ensures kernel { OnOk result (IsKernel setting.entry.graph.now kernel.new) }
+    ensures kernel { OnOk result (IsKernel setting.entry.plan.graph.now kernel.new) }
     ensures rows { kernel.new.rows ≡ kernel.old.rows }
     ensures calls { IfOk result (λ made. U.calls updater.new ≡ U.calls updater.old + made.0.work) }
 {
@@ -103,19 +96,14 @@ fn step_behind<U: Updater>(
     requires setting { IsSetting setting kernel.old }
     requires before { IsView setting.matrix.now before.view }
     requires view { IsView setting.matrix.now view }
-    requires history { IsHistory U.answer setting.program.now setting.graph.now (Some (view_arcs (task_in U.answer setting) before.view.0)) (number_of setting.rounds) before.history.now }
+    requires history { IsHistory U.answer setting.plan.program.now setting.plan.graph.now (Some (view_arcs (task_in U.answer setting) before.view.0)) (number_of setting.plan.rounds) before.history.now }
     requires old { old.now ≡ flags_of setting.matrix.now before.view.0 }
     ensures step { IfOk result (λ made. IsStep (task_in U.answer setting.entry) (Some before.entry.view.0) view.0 made.0) }
     ensures flags { IfOk result (λ made. made.1.items ≡ flags_of setting.entry.matrix.now view.0) }
-    ensures kernel { OnOk result (IsKernel setting.entry.graph.now kernel.new) }
+    ensures kernel { OnOk result (IsKernel setting.entry.plan.graph.now kernel.new) }
     ensures rows { kernel.new.rows ≡ kernel.old.rows }
     ensures calls { IfOk result (λ made. U.calls updater.new ≡ U.calls updater.old + made.0.work) }
 {
-    let plan = Plan {
-        program: setting.program,
-        graph: setting.graph,
-        rounds: setting.rounds,
-    };
     let matrix = setting.matrix;
     let turned = turned_edges(alloc, matrix, before.view, view)?;
     let twice = matrix.size(before.view) + matrix.size(view) + turned.len() as u64;
@@ -126,6 +114,6 @@ fn step_behind<U: Updater>(
         new: &new,
         turned: turned.as_slice(),
     };
-    let stepped = kernel.next_step(alloc, plan, behind, twice / 2, updater)?;
+    let stepped = kernel.next_step(alloc, setting.plan, behind, twice / 2, updater)?;
     Ok((stepped, new))
 }

@@ -97,14 +97,9 @@ fn step_all<U: Updater>(
     requires views { All (IsView matrix.now) segment.old.views }
     requires stands { SegmentStands (task_over U.answer plan.program.now plan.graph.now plan.rounds matrix.now) segment.old }
 {
-    let Plan {
-        program,
-        graph,
-        rounds,
-    } = plan;
     let mut text = String::new(alloc);
     while segment.works().len() < segment.views().len() {
-        let given = segment.step(alloc, graph, program, rounds, matrix, kernel, updater)?;
+        let given = segment.step(alloc, plan, matrix, kernel, updater)?;
         text.push_str(given_text(alloc, &given)?.as_str())?;
     }
     Ok(text)

@@ -19,16 +19,8 @@ turned_flags-requires g c =
     (subst (λ (es : List EdgeNo). All (λ e. e.0 < length (flags_of m u)) es) (sym (c.as_slice.ensures ∙ c.in_ok-turned.ensures))
     (subst (λ (n : ℕ). All (λ e. e.0 < n) (apart m (Some u) v)) (sym (flags-count m u)) (apart-within m u v)))
 
-pub next_step-requires-clause-plan : goal.next_step-requires-clause-plan
-next_step-requires-clause-plan g c = record {
-  checked = c.requires.setting.checked;
-  kernel = c.requires.setting.kernel;
-  some = c.requires.setting.some;
-  limit = c.requires.setting.limit;
-}
-
 pub next_step-requires-clause-along : goal.next_step-requires-clause-along
-next_step-requires-clause-along g c = all-along c.args.setting.program.now.along c.args.setting.graph.now c.args.kernel.now.rows c.requires.setting.along
+next_step-requires-clause-along g c = all-along c.args.setting.plan.program.now.along c.args.setting.plan.graph.now c.args.kernel.now.rows c.requires.setting.along
 
 pub next_step-requires-clause-behind : goal.next_step-requires-clause-behind
 next_step-requires-clause-behind g c =
@@ -41,7 +33,7 @@ next_step-requires-clause-behind g c =
     record {
       old = ap (λ (bs : List Bool). length bs) old ∙ flags-count m u ∙ c.requires.setting.matrix;
       new = ap (λ (bs : List Bool). length bs) new ∙ flags-count m v ∙ c.requires.setting.matrix;
-      turned = subst (λ (es : List EdgeNo). All (λ e. e.0 < length c.args.setting.graph.now.ends) es) (sym turned)
+      turned = subst (λ (es : List EdgeNo). All (λ e. e.0 < length c.args.setting.plan.graph.now.ends) es) (sym turned)
           (subst (λ (n : ℕ). All (λ e. e.0 < n) (apart m (Some u) v)) c.requires.setting.matrix (apart-within m u v));
       all_turned = subst (λ (bs : List Bool). TellsAll bs c.deref.result.now c.as_slice-2.result.now) (sym old)
           (subst (λ (bs : List Bool). TellsAll (flags_of m u) bs c.as_slice-2.result.now) (sym new)

@@ -7,14 +7,6 @@ pub first_step-requires-clause-edges : goal.first_step-requires-clause-edges
 first_step-requires-clause-edges g c =
     ap (λ (bs : List Bool). length bs) (c.deref.ensures.value ∙ c.in_ok-edges.ensures) ∙ flags-count c.args.setting.matrix.now c.args.view.0 ∙ c.requires.setting.matrix
 
-pub first_step-requires-clause-plan : goal.first_step-requires-clause-plan
-first_step-requires-clause-plan g c = record {
-  checked = c.requires.setting.checked;
-  kernel = c.requires.setting.kernel;
-  some = c.requires.setting.some;
-  limit = c.requires.setting.limit;
-}
-
 pub returns-clause-step : goal.returns-clause-step
 returns-clause-step g c =
     let step = c.in_ok-stepped.ensures.step in
