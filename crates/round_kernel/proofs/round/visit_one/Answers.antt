@@ -1,7 +1,5 @@
-use Rattle.std.proofs.Common.{◌∙◌, Bool, List, length, get_or, ap, refl, sym}
+use Rattle.std.proofs.Common.{refl, sym, rules}
 use Rattle.std.proofs.lemmas.Bool.{true≢false}
-use Rattle.graph_model.specs.declared.value.Val.{Val}
-use Rattle.vertex_lang.specs.Rounds.{value_at}
 use Rattle.round_kernel.proofs.Standing.{round-at}
 use Rattle.round_messages.specs.SendingLaws.{sent-at}
 use Rattle.round_kernel.proofs.round.visit_one.Goals as goal
@@ -23,12 +21,12 @@ visit-requires-clause-spot g c =
         sent = sent-at c.args.lists.now.alike p graph _ _ _ _ _ _ c.deref.ensures.value c.deref-2.ensures.value refl at.new_sent;
       };
       node = c.requires.node;
-      start = ?;
-      starts = ?;
+      start = search rules;
+      starts = search rules;
       before = round-at answer p graph all f.new.now _ _ _ _ _ c.deref.ensures.value c.deref-5.ensures.value at.new_before;
       old = λ one. round-at answer p graph all f.old.now _ _ _ _ r c.deref-3.ensures.value c.deref-4.ensures.value (at.old_now one);
       old_sent = λ e. absurd (true≢false (sym e));
-      marked = ?;
-      was = ?;
+      marked = search rules;
+      was = search rules;
       lookups = c.requires.stage.lookups;
     }

@@ -32,9 +32,9 @@ differ_if_listed-requires-clause-rounds g c =
       right = (c.requires.old one).sized;
       movers = λ u low. omega (arith, low, c.requires.lookups.suspects.apart_size, c.deref.ensures.len);
       still = λ u e low apart.
-        sent-under g.U.Updater.answer c.args.spot.now.new.program.now c.args.spot.now.new.graph.now c.args.spot.now.new.rows.now.by_head new.edges.now new.degrees.now new.values.now c.args.spot.now.new.number c.requires.round.stands u e low
-        ∙ c.requires.lookups.suspects.apart one u e low (ap (λ (bs : List Bool). get_or bs u false) (sym c.deref.ensures.value) ∙ apart)
-        ∙ sym (sent-under g.U.Updater.answer c.args.spot.now.new.program.now c.args.spot.now.new.graph.now c.args.spot.now.new.rows.now.by_head old.edges.now old.degrees.now old.values.now c.args.spot.now.new.number (c.requires.old one) u e low);
+          sent-under g.U.Updater.answer c.args.spot.now.new.program.now c.args.spot.now.new.graph.now c.args.spot.now.new.rows.now.by_head new.edges.now new.degrees.now new.values.now c.args.spot.now.new.number c.requires.round.stands u e low
+          ∙ c.requires.lookups.suspects.apart one u e low (ap (λ (bs : List Bool). get_or bs u false) (sym c.deref.ensures.value) ∙ apart)
+          ∙ sym (sent-under g.U.Updater.answer c.args.spot.now.new.program.now c.args.spot.now.new.graph.now c.args.spot.now.new.rows.now.by_head old.edges.now old.degrees.now old.values.now c.args.spot.now.new.number (c.requires.old one) u e low);
     }
 
 pub differ_if_listed-requires-clause-turned : goal.differ_if_listed-requires-clause-turned
@@ -101,9 +101,9 @@ differ-requires-clause-rounds g c =
       right = (c.requires.old one).sized;
       movers = λ u low. omega (arith, low, c.requires.lookups.suspects.apart_size, c.deref.ensures.len);
       still = λ u e low apart.
-        sent-under g.U.Updater.answer c.args.spot.now.new.program.now c.args.spot.now.new.graph.now c.args.spot.now.new.rows.now.by_head new.edges.now new.degrees.now new.values.now c.args.spot.now.new.number c.requires.round.stands u e low
-        ∙ c.requires.lookups.suspects.apart one u e low (ap (λ (bs : List Bool). get_or bs u false) (sym c.deref.ensures.value) ∙ apart)
-        ∙ sym (sent-under g.U.Updater.answer c.args.spot.now.new.program.now c.args.spot.now.new.graph.now c.args.spot.now.new.rows.now.by_head old.edges.now old.degrees.now old.values.now c.args.spot.now.new.number (c.requires.old one) u e low);
+          sent-under g.U.Updater.answer c.args.spot.now.new.program.now c.args.spot.now.new.graph.now c.args.spot.now.new.rows.now.by_head new.edges.now new.degrees.now new.values.now c.args.spot.now.new.number c.requires.round.stands u e low
+          ∙ c.requires.lookups.suspects.apart one u e low (ap (λ (bs : List Bool). get_or bs u false) (sym c.deref.ensures.value) ∙ apart)
+          ∙ sym (sent-under g.U.Updater.answer c.args.spot.now.new.program.now c.args.spot.now.new.graph.now c.args.spot.now.new.rows.now.by_head old.edges.now old.degrees.now old.values.now c.args.spot.now.new.number (c.requires.old one) u e low);
     }
 
 pub differ-requires-clause-turned : goal.differ-requires-clause-turned
