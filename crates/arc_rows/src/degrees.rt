@@ -160,7 +160,7 @@ pub fn count_degrees(
     Ok(degrees)
 }
 
-/// The same where the message may depend on it, and else any numbers.
+/// How many arcs of a view leave each node, where the message may depend on it, and else any small numbers.
 pub fn degrees_if(
     alloc: Global,
     by_degree: bool,

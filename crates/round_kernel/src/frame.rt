@@ -60,7 +60,7 @@ pub(crate) struct Lists {
     pub(crate) touched: Vec<bool>,
     /// The nodes to be visited that have a mark in this round of the view before.
     pub(crate) marked: Vec<bool>,
-    /// The same nodes, as a list.
+    /// These nodes as a list.
     pub(crate) shown: List<NodeNo>,
     /// The tails of arcs whose edge is in one of the two views alone.
     pub(crate) watched: Vec<bool>,

@@ -51,8 +51,8 @@ pub fn apply(
     send_again(alloc, sender, now, sent)
 }
 
-// The same, but messages aren't kept any more where one doesn't fit. Those that are made from the value alone are made in a loop
-// of their own, which asks neither for the form nor for the number of arcs.
+// Puts the new values in, and keeps what these nodes send, unless a message doesn't fit. Messages that are made from the value alone
+// are made in a loop of their own, which asks neither for the form nor for the number of arcs.
 fn apply_all(
     sender: &Sender<'_>,
     alike: bool,
@@ -78,7 +78,7 @@ fn apply_all(
     apply_by(form, sender, alike, now, sent, changes)
 }
 
-// The same, whatever the form of the message.
+// Puts the new values in, and the messages of these nodes, whatever the form of the message.
 fn apply_by(
     form: Form,
     sender: &Sender<'_>,
@@ -175,7 +175,7 @@ pub fn send_all(
     }
 }
 
-// The same where they may be kept, given the form of the message. They are kept in four bytes each, if all of them fit.
+// The messages of all nodes as numbers, given their form, where they may be kept: in four bytes each, if all of them fit.
 fn send_all_by(
     alloc: Global,
     form: Form,

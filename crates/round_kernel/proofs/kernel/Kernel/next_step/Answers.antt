@@ -7,19 +7,19 @@ use Rattle.round_kernel.specs.Histories.{IsHistory}
 use Rattle.round_kernel.specs.Plans.{IsNext}
 use Rattle.round_kernel.proofs.kernel.Kernel.next_step.Goals as goal
 
-pub next_step-requires-then-are_few-clause-plan : goal.next_step-requires-then-are_few-clause-plan
-next_step-requires-then-are_few-clause-plan g c = record {
+pub next_step-requires-clause-plan : goal.next_step-requires-clause-plan
+next_step-requires-clause-plan g c = record {
   checked = c.requires.plan.checked;
   kernel = c.in_ok-chosen.ensures.kernel;
   some = c.requires.plan.some;
   limit = c.requires.plan.limit;
 }
 
-pub next_step-requires-then-are_few-clause-along : goal.next_step-requires-then-are_few-clause-along
-next_step-requires-then-are_few-clause-along g c = c.in_ok-chosen.ensures.along c.args.plan.program.now.along c.requires.along
+pub next_step-requires-clause-along : goal.next_step-requires-clause-along
+next_step-requires-clause-along g c = c.in_ok-chosen.ensures.along c.args.plan.program.now.along c.requires.along
 
-pub next_step-requires-then-are_few-clause-behind : goal.next_step-requires-then-are_few-clause-behind
-next_step-requires-then-are_few-clause-behind g c =
+pub next_step-requires-clause-behind : goal.next_step-requires-clause-behind
+next_step-requires-clause-behind g c =
     let plan = c.args.plan in
     let is = c.requires.behind in
     record {
@@ -34,6 +34,6 @@ pub returns-then-are_few-clause-step : goal.returns-then-are_few-clause-step
 returns-then-are_few-clause-step g c =
     let answer = g.U.Updater.answer in
     let plan = c.args.plan in
-    let step = c.next_step-then-are_few in
+    let step = c.next_step in
     subst (λ (xs : List Arc). IfOk step.result (IsNext answer plan xs (arcs_in c.args.self.now.rows.by_head c.args.behind.new.now))) c.in_ok-chosen.ensures.old
     (subst (λ (xs : List Arc). IfOk step.result (IsNext answer plan (arcs_in c.in_ok-chosen.chosen.rows.by_head c.args.behind.old.now) xs)) c.in_ok-chosen.ensures.new step.ensures.step)
