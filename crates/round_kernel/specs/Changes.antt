@@ -5,7 +5,7 @@ use Rattle.change_lists.specs.ChangeLists.{HasNodes, HasChanges}
 use Rattle.round_kernel.specs.declared.frame.Frame.{Frame}
 use Rattle.round_kernel.specs.declared.round.Stage.{Stage}
 use Rattle.round_kernel.specs.declared.state.State.{State}
-use Rattle.round_kernel.specs.declared.visit.Made.{Made}
+use Rattle.round_kernel.specs.declared.made.Made.{Made}
 use Rattle.round_kernel.specs.Frames.{count_in, lone_at, marked_at, touched_at, was_touched_at, AreKept, AreStirred, IsFrame, StandAt}
 use Rattle.round_kernel.specs.Lookups.{StandLookups}
 use Rattle.round_kernel.specs.Rounds.{AreIdle}

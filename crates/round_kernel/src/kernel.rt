@@ -1,21 +1,18 @@
 //! What the steps of a segment go over: the arcs, and what a step leaves to the next.
 
-ghost use Rattle.std.specs.Prelude.{◌≡◌, ◌+◌, length, filter, IfOk, OnOk};
+ghost use Rattle.std.specs.Prelude.{◌≡◌, length, filter, IfOk};
 ghost use Rattle.graph_model.specs.GraphData.{GraphData};
 ghost use Rattle.vertex_lang.specs.declared.program.Along.{Along};
 ghost use Rattle.arc_rows.specs.RowLists.{AreAlong, AreOfAll, AreRows};
 ghost use Rattle.arc_rows.specs.Views.{arcs_in, in_either};
 ghost use Rattle.round_kernel.specs.Kernels.{IsKernel};
-ghost use Rattle.round_kernel.specs.Plans.{IsBehind, IsFirst, IsNext, MayRun};
 
-use crate::plan::{Behind, Plan};
 use crate::spare::Spare;
-use crate::step::{Stepped, first_step, next_step};
 use arc_rows::{CachedArcs, Rows};
 use graph_model::Graph;
 use std::alloc::Global;
 use surge_outside::NoMemory;
-use vertex_lang::{Along, Updater};
+use vertex_lang::Along;
 
 /// The arcs that the edges of a graph give in one direction, and what is kept of the view that was stepped last.
 #[derive(Debug, Drop)]
@@ -57,55 +54,6 @@ impl Kernel {
         Ok(Kernel::over(alloc, rows))
     }
 
-    /// Steps a view that none stands before, with these edges, so many of them. Where they are less than half of those of the graph,
-    /// it goes over their arcs alone. The error is want of memory.
-    pub fn first_step<U: Updater>(
-        &mut self,
-        alloc: Global,
-        plan: Plan<'_>,
-        edges: &[bool],
-        count: u64,
-        updater: &mut U,
-    ) -> Result<Stepped, NoMemory>
-        requires plan { MayRun plan self.old }
-        requires edges { length edges.now ≡ length plan.graph.now.ends }
-        ensures kernel { OnOk result (IsKernel plan.entry.graph.now self.new) }
-        ensures rows { self.new.rows ≡ self.old.rows }
-        ensures step { IfOk result (IsFirst U.answer plan.entry (arcs_in self.old.rows.by_head edges.now)) }
-        ensures calls { IfOk result (λ s. U.calls updater.new ≡ U.calls updater.old + s.work) }
-    {
-        if are_few(plan.graph, count) {
-            let mut chosen = self.within(alloc, plan.graph, edges, edges)?;
-            return first_step(alloc, plan, &mut chosen, edges, updater);
-        }
-        first_step(alloc, plan, self, edges, updater)
-    }
-
-    /// Steps a view behind another one, where so many edges are in one of the two or in both. Where they are less than half of those of
-    /// the graph, it goes over their arcs alone. The error is want of memory.
-    pub fn next_step<U: Updater>(
-        &mut self,
-        alloc: Global,
-        plan: Plan<'_>,
-        behind: Behind<'_>,
-        count: u64,
-        updater: &mut U,
-    ) -> Result<Stepped, NoMemory>
-        requires plan { MayRun plan self.old }
-        requires along { AreAlong plan.program.now.along plan.graph.now self.old.rows }
-        requires behind { IsBehind U.answer plan self.old behind }
-        ensures kernel { OnOk result (IsKernel plan.entry.graph.now self.new) }
-        ensures rows { self.new.rows ≡ self.old.rows }
-        ensures step { IfOk result (IsNext U.answer plan.entry (arcs_in self.old.rows.by_head behind.entry.old.now) (arcs_in self.old.rows.by_head behind.entry.new.now)) }
-        ensures calls { IfOk result (λ s. U.calls updater.new ≡ U.calls updater.old + s.work) }
-    {
-        if are_few(plan.graph, count) {
-            let mut chosen = self.within(alloc, plan.graph, behind.old, behind.new)?;
-            return next_step(alloc, plan, &mut chosen, behind, updater);
-        }
-        next_step(alloc, plan, self, behind, updater)
-    }
-
     // Over these arcs, with nothing kept.
     fn over(alloc: Global, rows: Rows) -> Kernel
         ensures rows { result.rows ≡ rows }
@@ -117,10 +65,4 @@ impl Kernel {
             spare: Spare::nothing(alloc),
         }
     }
-}
-
-// Whether so many edges are less than half of those of the graph: then their arcs are filtered first, since a step goes over arcs
-// more than once.
-fn are_few(graph: &Graph, count: u64) -> bool {
-    count < u64::from(graph.edge_count()) / 2
 }

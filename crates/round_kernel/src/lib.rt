@@ -16,6 +16,7 @@ mod copies;
 mod frame;
 mod kernel;
 mod lookups;
+mod made;
 mod plan;
 mod round;
 mod sorted;

@@ -1,15 +1,15 @@
 //! What makes the visits of a round fast.
 
-ghost use Rattle.std.specs.Prelude.{◌<◌, ◌+◌, IfOk, OnOk, IsTrue};
+ghost use Rattle.std.specs.Prelude.{◌<◌, ◌+◌, IfOk, OnOk};
 ghost use Rattle.round_kernel.specs.Lookups.{StandLookups};
-ghost use Rattle.round_kernel.specs.Frames.{AreStirred, IsFrame, StandAt, count_in, lone_at, was_touched_at};
+ghost use Rattle.round_kernel.specs.Frames.{IsFrame, StandAt, was_touched_at};
 ghost use Rattle.round_kernel.specs.Changes.{HasMade};
 ghost use Rattle.arc_rows.specs.Listings.{IsListed};
 
 use crate::frame::{Frame, Lists};
+use crate::made::Made;
 use crate::source::{first_source, next_source, with_arcs};
 use crate::suspects::Suspects;
-use crate::visit::Made;
 use arc_rows::Listed;
 use round_inputs::MessageSource;
 use std::alloc::Global;

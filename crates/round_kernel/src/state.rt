@@ -2,7 +2,7 @@
 
 use crate::frame::Lists;
 use crate::lookups::Lookups;
-use crate::visit::Made;
+use crate::made::Made;
 use value_codes::Kept;
 
 /// What goes from round to round.

@@ -1,6 +1,6 @@
 //! The step from a view to the next.
 
-ghost use Rattle.std.specs.Prelude.{◌≡◌, ◌≢◌, ◌<◌, ◌≤◌, ◌+◌, ◌-◌, ◌++◌, ◌∷◌, [], ℕ, true, false, length, get_or, All, IfOk, OnOk, IsTrue, IsFalse};
+ghost use Rattle.std.specs.Prelude.{◌≡◌, ◌≢◌, ◌<◌, ◌≤◌, ◌+◌, ◌-◌, ◌++◌, ◌∷◌, [], ℕ, true, false, length, get_or, IfOk, OnOk, IsTrue, IsFalse};
 ghost use Rattle.vertex_lang.specs.Lone.{number_of};
 ghost use Rattle.lone_work.specs.Work.{work};
 ghost use Rattle.arc_rows.specs.Counts.{AreBoth};
@@ -16,13 +16,13 @@ ghost use Rattle.round_kernel.specs.Steps.{HasRounds, IsRun, outcome_of};
 use crate::frame::{Frame, Lists};
 use crate::kernel::Kernel;
 use crate::lookups::Lookups;
+use crate::made::Made;
 use crate::plan::{Behind, Plan};
 use crate::round::{go_on, run_round};
 use crate::sorted::in_node_order;
 use crate::source::listed_in;
 use crate::spare::{Spare, kept_of};
 use crate::state::State;
-use crate::visit::Made;
 use arc_rows::{CachedArcs, Degrees, Listed, TwoViews};
 use change_lists::{ChainedLists, Change, History, all_changes, changes_between};
 use graph_model::Graph;
@@ -45,8 +45,65 @@ pub struct Stepped {
     pub work: u64,
 }
 
-/// Steps a view that none stands before, over all arcs of the kernel. The error is want of memory.
-pub(crate) fn first_step<U: Updater>(
+impl Kernel {
+    /// Steps a view that none stands before, with these edges, so many of them. Where they are less than half of those of the graph,
+    /// it goes over their arcs alone. The error is want of memory.
+    pub fn first_step<U: Updater>(
+        &mut self,
+        alloc: Global,
+        plan: Plan<'_>,
+        edges: &[bool],
+        count: u64,
+        updater: &mut U,
+    ) -> Result<Stepped, NoMemory>
+        requires plan { MayRun plan self.old }
+        requires edges { length edges.now ≡ length plan.graph.now.ends }
+        ensures kernel { OnOk result (IsKernel plan.entry.graph.now self.new) }
+        ensures rows { self.new.rows ≡ self.old.rows }
+        ensures step { IfOk result (IsFirst U.answer plan.entry (arcs_in self.old.rows.by_head edges.now)) }
+        ensures calls { IfOk result (λ s. U.calls updater.new ≡ U.calls updater.old + s.work) }
+    {
+        if are_few(plan.graph, count) {
+            let mut chosen = self.within(alloc, plan.graph, edges, edges)?;
+            return first_step(alloc, plan, &mut chosen, edges, updater);
+        }
+        first_step(alloc, plan, self, edges, updater)
+    }
+
+    /// Steps a view behind another one, where so many edges are in one of the two or in both. Where they are less than half of those of
+    /// the graph, it goes over their arcs alone. The error is want of memory.
+    pub fn next_step<U: Updater>(
+        &mut self,
+        alloc: Global,
+        plan: Plan<'_>,
+        behind: Behind<'_>,
+        count: u64,
+        updater: &mut U,
+    ) -> Result<Stepped, NoMemory>
+        requires plan { MayRun plan self.old }
+        requires along { AreAlong plan.program.now.along plan.graph.now self.old.rows }
+        requires behind { IsBehind U.answer plan self.old behind }
+        ensures kernel { OnOk result (IsKernel plan.entry.graph.now self.new) }
+        ensures rows { self.new.rows ≡ self.old.rows }
+        ensures step { IfOk result (IsNext U.answer plan.entry (arcs_in self.old.rows.by_head behind.entry.old.now) (arcs_in self.old.rows.by_head behind.entry.new.now)) }
+        ensures calls { IfOk result (λ s. U.calls updater.new ≡ U.calls updater.old + s.work) }
+    {
+        if are_few(plan.graph, count) {
+            let mut chosen = self.within(alloc, plan.graph, behind.old, behind.new)?;
+            return next_step(alloc, plan, &mut chosen, behind, updater);
+        }
+        next_step(alloc, plan, self, behind, updater)
+    }
+}
+
+// Whether so many edges are less than half of those of the graph: then their arcs are filtered first, since a step goes over arcs
+// more than once.
+fn are_few(graph: &Graph, count: u64) -> bool {
+    count < u64::from(graph.edge_count()) / 2
+}
+
+// Steps a view that none stands before, over all arcs of the kernel.
+fn first_step<U: Updater>(
     alloc: Global,
     plan: Plan<'_>,
     kernel: &mut Kernel,
@@ -98,8 +155,8 @@ pub(crate) fn first_step<U: Updater>(
     })
 }
 
-/// Steps a view behind another one, over all arcs of the kernel. The error is want of memory.
-pub(crate) fn next_step<U: Updater>(
+// Steps a view behind another one, over all arcs of the kernel.
+fn next_step<U: Updater>(
     alloc: Global,
     plan: Plan<'_>,
     kernel: &mut Kernel,

@@ -9,7 +9,7 @@ ghost use Rattle.round_kernel.specs.Flags.{IsFlagged, IsSettled, AreLong, AreSet
 ghost use Rattle.arc_rows.specs.RowLists.{IsGrouped};
 
 use crate::frame::{Frame, Lists};
-use crate::visit::Made;
+use crate::made::Made;
 use arc_rows::Turned;
 use change_lists::{Change, is_other};
 use graph_model::NodeNo;

@@ -1,6 +1,6 @@
 //! A visit to a node in a round.
 
-ghost use Rattle.std.specs.Prelude.{◌≡◌, ◌<◌, ◌+◌, ◌++◌, ◌&&◌, ◌||◌, [], true, length, IfOk, OnOk, IsTrue, IsFalse, if◌then◌else◌};
+ghost use Rattle.std.specs.Prelude.{◌≡◌, ◌<◌, ◌+◌, ◌++◌, ◌&&◌, ◌||◌, true, length, IfOk, OnOk, IsTrue, IsFalse, if◌then◌else◌};
 ghost use Rattle.vertex_lang.specs.Expressions.{start_of};
 ghost use Rattle.vertex_lang.specs.Rounds.{value_at};
 ghost use Rattle.round_inputs.specs.TwoRounds.{got_in};
@@ -8,52 +8,16 @@ ghost use Rattle.round_kernel.specs.Spots.{changes_next, counted_in, marked_in, 
 ghost use Rattle.change_lists.specs.ChangeLists.{mark_if, change_if};
 ghost use Rattle.value_codes.specs.Tallies.{tally_of};
 
+use crate::made::Made;
 use crate::spot::Spot;
 use crate::suspects::stamp_of;
-use change_lists::{Change, is_other, push_change, push_mark};
+use change_lists::{is_other, push_change, push_mark};
 use graph_model::{Graph, NodeNo, Val};
 use round_inputs::{Movers, Scratch, TwoRounds, differ, differ_if_listed};
 use round_messages::Side;
-use std::alloc::Global;
-use surge_outside::{List, NoMemory};
+use surge_outside::NoMemory;
 use value_codes::{Kept, Tally};
 use vertex_lang::{Expr, Program, Updater};
-
-/// What a round of the new view gives: the nodes whose input changed in it, and what changes to the next round.
-#[derive(Drop)]
-pub(crate) struct Made {
-    pub(crate) marks: List<NodeNo>,
-    pub(crate) changes: List<Change>,
-    /// Whether few touched nodes change to the next round. Then all that changes to it in either view follows, but at nodes that were
-    /// never touched and from which no turned arc leaves: of these nobody has to be told. Else all nodes are visited in it.
-    pub(crate) few: bool,
-    pub(crate) stirred: List<Change>,
-}
-
-impl Made {
-    /// Nothing yet, with room for a mark and a change of each node, of so many. The error is want of memory.
-    pub(crate) fn new(alloc: Global, count: u32) -> Result<Made, NoMemory> {
-        let marks = Vec::with_capacity(alloc, count as usize)?;
-        let changes = Vec::with_capacity(alloc, count as usize)?;
-        Ok(Made {
-            marks: List::from_vec(marks),
-            changes: List::from_vec(changes),
-            few: false,
-            stirred: List::new(alloc),
-        })
-    }
-
-    /// No marks and no changes anew.
-    pub(crate) fn clear(&mut self)
-        ensures marks { self.new.marks ≡ [] }
-        ensures changes { self.new.changes ≡ [] }
-        ensures few { self.new.few ≡ self.old.few }
-        ensures stirred { self.new.stirred ≡ self.old.stirred }
-    {
-        self.marks.clear();
-        self.changes.clear();
-    }
-}
 
 /// Visits a node: tells whether it is touched and evaluates it where it is counted. Of a touched node it keeps what
 /// tells its messages from those of the next round. The answer is the number of counted nodes here, 0 or 1.
