@@ -148,14 +148,16 @@ fn push_from_tail(
         (more ++ filter is_sent (right_sends rounds.now tail ∷ []))) }
 {
     let place = tail.0 as usize;
-    let here = kept(rounds.left.side.sent, place);
+    let left = rounds.left;
+    let right = rounds.right;
+    let here = kept(left.side.sent, place);
     let there = send_by(
         form,
-        rounds.left.program,
-        rounds.left.graph,
+        left.program,
+        left.graph,
         tail,
-        rounds.right.values[place],
-        rounds.right.degrees[place],
+        right.values[place],
+        right.degrees[place],
         EdgeNo(0),
     );
     push_unlike(first, second, here, there)
