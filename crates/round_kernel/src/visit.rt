@@ -86,7 +86,8 @@ fn visit_marked<U: Updater>(
     ensures changes { OnOk result (made.new.changes ≡ made.old.changes ++ change_if (changes_next U.answer spot.now) spot.now.node (next_value U.answer spot.now)) }
     ensures calls { IfOk result (λ n. U.calls updater.new ≡ U.calls updater.old + n) }
 {
-    let tally = spot.lookups.source.tally(&spot.new, spot.node, updater);
+    let lookups = spot.lookups;
+    let tally = lookups.source.tally(&spot.new, spot.node, updater);
     *kept = tally.kept();
     push_mark(&mut made.marks, true, spot.node)?;
     let value = evaluate(spot, tally, updater);
@@ -113,7 +114,8 @@ fn visit_again<U: Updater>(
     ensures changes { OnOk result (made.new.changes ≡ made.old.changes ++ change_if (changes_next U.answer spot.now) spot.now.node (next_value U.answer spot.now)) }
     ensures calls { IfOk result (λ n. U.calls updater.new ≡ U.calls updater.old + n) }
 {
-    let tally = spot.lookups.source.tally(&spot.new, spot.node, updater);
+    let lookups = spot.lookups;
+    let tally = lookups.source.tally(&spot.new, spot.node, updater);
     let now = tally.kept();
     let marked = is_marked(spot, *kept, now, scratch, updater)?;
     *kept = now;
@@ -153,7 +155,8 @@ fn is_touched<U: Updater>(
     if either(spot.first, spot.was) {
         return Ok(true);
     }
-    let suspects = &spot.lookups.suspects;
+    let lookups = spot.lookups;
+    let suspects = &lookups.suspects;
     let turned = suspects.turned_into(spot.node);
     let movers = Movers::Views(&suspects.apart);
     let rounds = TwoRounds {
@@ -162,7 +165,7 @@ fn is_touched<U: Updater>(
         turned,
         movers,
     };
-    let listed = differ_if_listed(&rounds, &spot.lookups.source, spot.node, scratch, updater)?;
+    let listed = differ_if_listed(&rounds, &lookups.source, spot.node, scratch, updater)?;
     if let Some(active) = listed {
         return Ok(active);
     }
@@ -209,7 +212,8 @@ fn is_other_input<U: Updater>(
         return Ok(true);
     }
     let place = spot.node.0 as usize;
-    let movers = Movers::Rounds(&spot.lookups.suspects.moved, stamp_of(spot.new.number));
+    let lookups = spot.lookups;
+    let movers = Movers::Rounds(&lookups.suspects.moved, stamp_of(spot.new.number));
     if movers.moves(spot.node) && is_other(spot.new.side.values[place], spot.before[place]) {
         return Ok(true);
     }
@@ -226,7 +230,7 @@ fn is_other_input<U: Updater>(
         turned: &[],
         movers,
     };
-    let listed = differ_if_listed(&rounds, &spot.lookups.source, spot.node, scratch, updater)?;
+    let listed = differ_if_listed(&rounds, &lookups.source, spot.node, scratch, updater)?;
     if let Some(marked) = listed {
         return Ok(marked);
     }
