@@ -266,13 +266,19 @@ fn run_rounds<U: Updater>(
         work += run_one(alloc, frame, round, &mut history, &mut state, updater)?;
         round += 1;
     }
+    let State {
+        lists,
+        kept,
+        lookups,
+        made: _,
+    } = state;
     trim(&mut history.changes);
-    history.starts = Some(state.lists.starts.clone()?);
+    history.starts = Some(lists.starts.clone()?);
     Ok(Run {
         history,
-        lists: state.lists,
-        listed: listed_in(state.lookups.source, frame, round, updater),
-        kept: state.kept,
+        lists,
+        listed: listed_in(lookups.source, frame, round, updater),
+        kept,
         work,
     })
 }
