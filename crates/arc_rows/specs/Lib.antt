@@ -6,6 +6,7 @@ pub mod Links
 pub mod Listings
 pub mod Counts
 pub mod TurnedArcs
+pub mod TwoViews
 pub mod RowLaws
 pub mod FilterLaws
 pub mod ViewLaws

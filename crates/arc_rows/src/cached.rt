@@ -1,17 +1,16 @@
 //! What is kept of the arcs of a view from a step to the next.
 
-ghost use Rattle.std.specs.Prelude.{◌≡◌, ◌<◌, Bool, List, true, false, length, get_or, All, Contains, IfOk, IfSome, IsTrue};
+ghost use Rattle.std.specs.Prelude.{◌≡◌, ◌<◌, Bool, List, true, false, length, get_or, All, IfOk, IfSome, IsTrue};
 ghost use Rattle.graph_model.specs.GraphData.{GraphData};
 ghost use Rattle.vertex_lang.specs.declared.arc.Arc.{Arc};
-ghost use Rattle.vertex_lang.specs.Arcs.{IsArc};
 ghost use Rattle.arc_rows.specs.Counts.{AreCounted};
 ghost use Rattle.arc_rows.specs.Listings.{AreLinks, AreTails, IsListed, AreCached};
-ghost use Rattle.arc_rows.specs.RowLists.{AreRows};
-ghost use Rattle.arc_rows.specs.Views.{IsTurned, TellsAll};
+ghost use Rattle.arc_rows.specs.TwoViews.{AreCachedOver, AreCountedInOld, AreTwoViews, IsListedInNew};
+ghost use Rattle.arc_rows.specs.Views.{TellsAll};
 
 use crate::live::{Live, renew_links, renew_tails};
-use crate::rows::Rows;
-use graph_model::{EdgeNo, Graph, NodeNo};
+use crate::views::TwoViews;
+use graph_model::{EdgeNo, NodeNo};
 use message_forms::Link;
 use std::alloc::Global;
 use surge_outside::NoMemory;
@@ -95,51 +94,46 @@ impl CachedArcs {
         }
     }
 
-    /// The arcs of another view, where those of this one are kept, and the arcs of all edges that are in one of the two
-    /// alone are given, and these edges; how many arcs leave each node in this one; and the flags of the other view, where those of
-    /// this one are kept. The error is want of memory.
+    /// The arcs of the new one of two views, where those of the view before are kept; how many arcs leave each node in the view
+    /// before; and the flags of the new one, where those of the view before are kept. The error is want of memory.
     pub fn turned(
         self,
         alloc: Global,
-        graph: &Graph,
-        rows: &Rows,
-        old: &[bool],
-        new: &[bool],
-        turned: &[Arc],
-        edges_turned: &[EdgeNo],
+        views: &TwoViews<'_>,
     ) -> Result<(Listed, Option<Vec<u64>>, Option<Vec<bool>>), NoMemory>
-        requires rows { AreRows graph.now rows.now }
-        requires old { length old.now ≡ length graph.now.ends }
-        requires new { length new.now ≡ length graph.now.ends }
-        requires cached { AreCached graph.now rows.now.by_head self }
-        requires turned { All (IsArc graph.now) turned.now }
-        requires all_turned { All (λ a. IsTurned old.now new.now a → Contains turned.now a) rows.now.by_head }
-        requires edges { All (λ e. e.0 < length graph.now.ends) edges_turned.now }
-        requires all_edges { TellsAll old.now new.now edges_turned.now }
-        ensures listed { IfOk result (λ r. IsListed graph.now rows.now.by_head new.now r.0) }
-        ensures counted { IfOk result (λ r. IfSome r.1 (λ d. AreCounted graph.now rows.now.by_head old.now d.items)) }
-        ensures flags { IfOk result (λ r. IfSome r.2 (λ f. f.items ≡ new.now)) }
+        requires views { AreTwoViews views.now }
+        requires cached { AreCachedOver views.now self }
+        ensures listed { IfOk result (λ r. IsListedInNew views.now r.0) }
+        ensures counted { IfOk result (λ r. IfSome r.1 (λ d. AreCountedInOld views.now d.items)) }
+        ensures flags { IfOk result (λ r. IfSome r.2 (λ f. f.items ≡ views.now.new.now)) }
     {
         let CachedArcs {
             edges,
             listed,
             degrees,
         } = self;
-        if !is_same(&edges, old) {
+        if !is_same(&edges, views.old) {
             return Ok((Listed::Nothing, None, None));
         }
-        let heads = heads_of(alloc, graph.node_count() as usize, turned)?;
-        let flags = renewed(edges, old, new, edges_turned);
+        let heads = heads_of(alloc, views.graph.node_count() as usize, views.arcs)?;
+        let flags = renewed(edges, views.old, views.new, views.edges);
         match listed {
             Listed::Nothing => Ok((Listed::Nothing, degrees, Some(flags))),
             Listed::Tails(tails) => {
                 let mut live = tails;
-                renew_tails(&mut live, graph, rows, new, &heads);
+                renew_tails(&mut live, views.graph, views.rows, views.new, &heads);
                 Ok((Listed::Tails(live), degrees, Some(flags)))
             }
             Listed::Links(column, links) => {
                 let mut live = links;
-                renew_links(&mut live, graph, rows, new, column, &heads);
+                renew_links(
+                    &mut live,
+                    views.graph,
+                    views.rows,
+                    views.new,
+                    column,
+                    &heads,
+                );
                 Ok((Listed::Links(column, live), degrees, Some(flags)))
             }
         }

@@ -1,14 +1,16 @@
 //! How many arcs leave each node, in a view and in the view before it.
 
-ghost use Rattle.std.specs.Prelude.{◌≡◌, ◌<◌, ◌^◌, Bool, List, length, All, Contains, IfOk, IfSome, true, false, ℕ, get_or};
+ghost use Rattle.std.specs.Prelude.{◌≡◌, ◌<◌, ◌^◌, Bool, List, length, All, IfOk, IfSome, true, false, ℕ, get_or};
 ghost use Rattle.graph_model.specs.GraphData.{GraphData};
 ghost use Rattle.vertex_lang.specs.declared.arc.Arc.{Arc};
-ghost use Rattle.vertex_lang.specs.Arcs.{IsArc, outdeg};
+ghost use Rattle.vertex_lang.specs.Arcs.{outdeg};
 ghost use Rattle.arc_rows.specs.Counts.{AreBoth, AreCounted, ArePlain};
 ghost use Rattle.arc_rows.specs.RowLists.{AreRows};
-ghost use Rattle.arc_rows.specs.Views.{arcs_in, IsTurned};
+ghost use Rattle.arc_rows.specs.TwoViews.{AreCountedInBoth, AreCountedInNew, AreCountedInOld, AreTwoViews};
+ghost use Rattle.arc_rows.specs.Views.{arcs_in};
 
 use crate::rows::Rows;
+use crate::views::TwoViews;
 use graph_model::Graph;
 use std::alloc::Global;
 use surge_outside::NoMemory;
@@ -45,38 +47,30 @@ impl Degrees {
         })
     }
 
-    /// The same; but where those of the view before are known, those of the new one are counted anew for the tails of these
-    /// arcs alone, among which are all that are in one of the two views alone; and where they aren't asked for, any that are at
-    /// hand are taken.
+    /// In two views: where those of the view before are known, those of the new one are counted anew for the tails alone of arcs
+    /// that are in one of the two alone; and where they aren't asked for, any that are at hand are taken. The error is want of
+    /// memory.
     pub fn turned(
         alloc: Global,
         asked: bool,
-        graph: &Graph,
-        rows: &Rows,
+        views: &TwoViews<'_>,
         known: Option<Vec<u64>>,
         spare: Option<Degrees>,
-        old: &[bool],
-        new: &[bool],
-        turned: &[Arc],
     ) -> Result<Degrees, NoMemory>
-        requires rows { AreRows graph.now rows.now }
-        requires known { IfSome known (λ d. AreCounted graph.now rows.now.by_head old.now d.items) }
-        requires spare { IfSome spare (ArePlain graph.now) }
-        requires old { length old.now ≡ length graph.now.ends }
-        requires new { length new.now ≡ length graph.now.ends }
-        requires turned { All (IsArc graph.now) turned.now }
-        requires all_turned { All (λ a. IsTurned old.now new.now a → Contains turned.now a) rows.now.by_head }
-        ensures { IfOk result (AreBoth asked graph.now rows.now.by_head old.now new.now) }
+        requires views { AreTwoViews views.now }
+        requires known { IfSome known (λ d. AreCountedInOld views.now d.items) }
+        requires spare { IfSome spare (ArePlain views.now.graph.now) }
+        ensures { IfOk result (AreCountedInBoth asked views.now) }
     {
         match known {
             Some(before) => {
-                let after = turned_degrees(alloc, graph, rows, &before, old, new, turned)?;
+                let after = turned_degrees(alloc, views, &before)?;
                 Ok(Degrees {
                     old: before,
                     new: after,
                 })
             }
-            None => Degrees::at_hand(alloc, asked, graph, rows, spare, old, new),
+            None => Degrees::at_hand(alloc, asked, views, spare),
         }
     }
 
@@ -84,21 +78,16 @@ impl Degrees {
     fn at_hand(
         alloc: Global,
         asked: bool,
-        graph: &Graph,
-        rows: &Rows,
+        views: &TwoViews<'_>,
         spare: Option<Degrees>,
-        old: &[bool],
-        new: &[bool],
     ) -> Result<Degrees, NoMemory>
-        requires rows { AreRows graph.now rows.now }
-        requires spare { IfSome spare (ArePlain graph.now) }
-        requires old { length old.now ≡ length graph.now.ends }
-        requires new { length new.now ≡ length graph.now.ends }
-        ensures { IfOk result (AreBoth asked graph.now rows.now.by_head old.now new.now) }
+        requires views { AreTwoViews views.now }
+        requires spare { IfSome spare (ArePlain views.now.graph.now) }
+        ensures { IfOk result (AreCountedInBoth asked views.now) }
     {
         match spare {
             Some(degrees) if !asked => Ok(degrees),
-            _ => Degrees::counted(alloc, asked, graph, rows, old, new),
+            _ => Degrees::counted(alloc, asked, views.graph, views.rows, views.old, views.new),
         }
     }
 
@@ -114,29 +103,18 @@ impl Degrees {
     }
 }
 
-// How many arcs leave each node in a view, given how many do in another one. Each tail is looked at once.
-fn turned_degrees(
-    alloc: Global,
-    graph: &Graph,
-    rows: &Rows,
-    known: &[u64],
-    _old: &[bool],
-    new: &[bool],
-    turned: &[Arc],
-) -> Result<Vec<u64>, NoMemory>
-    requires rows { AreRows graph.now rows.now }
-    requires known { AreCounted graph.now rows.now.by_head _old.now known.now }
-    requires new { length new.now ≡ length graph.now.ends }
-    requires turned { All (IsArc graph.now) turned.now }
-    requires all_turned { All (λ a. IsTurned _old.now new.now a → Contains turned.now a) rows.now.by_head }
-    ensures { IfOk result (λ d. AreCounted graph.now rows.now.by_head new.now d.items) }
+// How many arcs leave each node in the new view, given how many do in the view before. Each tail is looked at once.
+fn turned_degrees(alloc: Global, views: &TwoViews<'_>, known: &[u64]) -> Result<Vec<u64>, NoMemory>
+    requires views { AreTwoViews views.now }
+    requires known { AreCountedInOld views.now known.now }
+    ensures { IfOk result (λ d. AreCountedInNew views.now d.items) }
 {
     let mut degrees = Vec::from_slice(alloc, known)?;
-    let mut done = vec![in alloc; false; graph.node_count() as usize]?;
-    for arc in turned {
+    let mut done = vec![in alloc; false; views.graph.node_count() as usize]?;
+    for arc in views.arcs {
         let tail = arc.tail.0 as usize;
         if !done[tail] {
-            let leaving = count_in_view(rows.out_of(arc.tail), new);
+            let leaving = count_in_view(views.rows.out_of(arc.tail), views.new);
             degrees[tail] = leaving;
             done[tail] = true;
         }
@@ -182,7 +160,7 @@ pub fn count_degrees(
     Ok(degrees)
 }
 
-/// The same where the message may depend on it, and else any numbers.
+/// How many arcs of a view leave each node, where the message may depend on it, and else any small numbers.
 pub fn degrees_if(
     alloc: Global,
     by_degree: bool,

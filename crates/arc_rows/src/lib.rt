@@ -13,9 +13,11 @@ mod degrees;
 mod live;
 mod rows;
 mod turned;
+mod views;
 
 pub use cached::{CachedArcs, Listed};
 pub use degrees::Degrees;
 pub use live::{Live, live_links, live_tails};
 pub use rows::{Rows, count_either, keep};
 pub use turned::{Turned, has_edge};
+pub use views::TwoViews;

@@ -60,7 +60,7 @@ pub fn live_tails(
     Ok(live)
 }
 
-/// The same, and with each tail a property of the edge. The error is want of memory.
+/// The tails of the arcs of a view by head, and with each a property of its edge. The error is want of memory.
 pub fn live_links(
     alloc: Global,
     graph: &Graph,
@@ -206,7 +206,7 @@ fn renew_links_of(
     };
 }
 
-// The same with links.
+// Puts the tails of those arcs that are in the view, each with the property of its edge, from a place on, and tells how many.
 fn put_links(
     links: &mut Vec<Link>,
     from: usize,

@@ -1,71 +1,53 @@
 //! Whether a node gets something else in two rounds, found by what is listed of its arcs: no arc and no view is looked at.
 
-ghost use Rattle.std.specs.Prelude.{◌≡◌, ◌<◌, ◌≤◌, ◌++◌, ◌∷◌, [], ℕ, not, true, List, length, take, filter, All, Contains, IfOk, IfSome, OnOk};
+ghost use Rattle.std.specs.Prelude.{◌≡◌, ◌<◌, ◌≤◌, ◌++◌, ◌∷◌, [], ℕ, not, true, List, length, take, filter, All, IfOk, IfSome, OnOk};
 ghost use Rattle.graph_model.specs.declared.value.Val.{Val};
 ghost use Rattle.vertex_lang.specs.Arcs.{is_sent};
-ghost use Rattle.vertex_lang.specs.Leaves.{IsChecked};
 ghost use Rattle.vertex_lang.specs.Lone.{same_value};
 ghost use Rattle.multisets.specs.Multisets.{are_one};
-ghost use Rattle.round_inputs.specs.Sources.{IsSource};
 ghost use Rattle.message_forms.specs.Forms.{HasForm};
-ghost use Rattle.round_inputs.specs.Links.{brought_over, sent_by_tail, sent_by_tails, values_over};
+ghost use Rattle.round_inputs.specs.Links.{brought_over, values_over};
 ghost use Rattle.value_codes.specs.Numbers.{number_over, sent_over};
-ghost use Rattle.arc_rows.specs.RowLists.{AreRows};
-ghost use Rattle.round_messages.specs.Sides.{all_brought, AreSent, IsSized};
-ghost use Rattle.round_inputs.specs.Inputs.{AreLeft, IsRound};
-ghost use Rattle.arc_rows.specs.Views.{row_of, IsTurned};
-ghost use Rattle.round_inputs.specs.Movers.{InMovers, AreStill, moves};
+ghost use Rattle.round_inputs.specs.Inputs.{AreLeft};
+ghost use Rattle.round_inputs.specs.Movers.{InMovers, moves};
 ghost use Rattle.round_inputs.specs.StillLinks.{IsStillOver};
+ghost use Rattle.round_inputs.specs.TwoRounds.{bring_other, left_sends, left_sent, right_sends, right_sent, row_in, send_other, AreTwoRounds, IsSourceOf, IsViewRound, TellsTurned};
 
 use crate::compare::{Scratch, are_unlike, push_unlike};
 use crate::movers::Movers;
+use crate::rounds::TwoRounds;
 use crate::source::MessageSource;
-use arc_rows::{Rows, keep};
-use graph_model::{EdgeNo, Graph, NodeNo, Val};
+use arc_rows::keep;
+use graph_model::{EdgeNo, NodeNo, Val};
 use message_forms::{Form, Link, form_of, send_by, value_of, with_step};
-use round_messages::{Side, kept};
+use round_messages::kept;
 use surge_outside::NoMemory;
-use vertex_lang::{Arc, Program, Updater};
+use vertex_lang::Updater;
 
-/// Whether the messages that a node gets differ in a round of the new view and in another round, where it is told which nodes
-/// may send something else, and which of the arcs to it may be in one of two views alone. Nothing where there are such arcs,
-/// or the tails of those in the new view aren't listed.
+/// Whether the messages that a node gets differ in two rounds, as multisets. Nothing where arcs are told that may be in one of two
+/// views alone, or the tails of those in the view aren't listed. The error is want of memory.
 pub fn differ_if_listed<U: Updater>(
-    program: &Program,
-    graph: &Graph,
-    _rows: &Rows,
+    rounds: &TwoRounds<'_>,
     source: &MessageSource,
-    left: &Side<'_>,
-    right: &Side<'_>,
-    turned: &[Arc],
-    movers: Movers<'_>,
     node: NodeNo,
-    _round: u32,
     scratch: &mut Scratch,
     _updater: &U,
 ) -> Result<Option<bool>, NoMemory>
-    requires checked { IsChecked program.now graph.now }
-    requires rows { AreRows graph.now _rows.now }
-    requires node { node.0 < length graph.now.ids }
-    requires source { IsSource U.answer program.now graph.now _rows.now.by_head left.now.edges.now _round source.now }
-    requires left { IsRound U.answer program.now graph.now _rows.now.by_head left.now.edges.now left.now.degrees.now left.now.values.now _round }
-    requires right { IsSized graph.now right.now.edges.now right.now.degrees.now right.now.values.now }
-    requires turned { All (λ a. IsTurned left.now.edges.now right.now.edges.now a → Contains turned.now a) (row_of _rows.now.by_head node.0) }
-    requires movers { (u : ℕ) → u < length graph.now.ids → InMovers movers u }
-    requires still { AreStill program.now graph.now movers left.now.degrees.now left.now.values.now right.now.degrees.now right.now.values.now }
-    requires sent { AreSent left.now.alike program.now graph.now left.now.degrees.now left.now.values.now left.now.sent.now }
-    ensures { IfOk result (λ found. IfSome found (λ b. b ≡ not (are_one same_value
-        (all_brought program.now graph.now left.now.edges.now left.now.degrees.now left.now.values.now (row_of _rows.now.by_head node.0))
-        (all_brought program.now graph.now right.now.edges.now right.now.degrees.now right.now.values.now (row_of _rows.now.by_head node.0))))) }
+    requires round { IsViewRound U.answer rounds.now.left.now }
+    requires rounds { AreTwoRounds rounds.now }
+    requires node { node.0 < length rounds.now.left.now.graph.now.ids }
+    requires source { IsSourceOf U.answer rounds.now.left.now source.now }
+    requires turned { All (TellsTurned rounds.now) (row_in rounds.now.left.now node.0) }
+    ensures { IfOk result (λ found. IfSome found (λ b. b ≡ bring_other rounds.now (row_in rounds.now.left.now node.0))) }
 {
-    if !turned.is_empty() {
+    if !rounds.turned.is_empty() {
         return Ok(None);
     }
     match source {
-        MessageSource::Messages(live) if left.alike => match live {
+        MessageSource::Messages(live) if rounds.left.side.alike => match live {
             Some(tails) => {
                 let row = tails.row(node);
-                let differ = differ_by_tails(program, graph, left, right, movers, row, scratch)?;
+                let differ = differ_by_tails(rounds, row, scratch)?;
                 Ok(Some(differ))
             }
             None => Ok(None),
@@ -73,7 +55,8 @@ pub fn differ_if_listed<U: Updater>(
         MessageSource::Steps(_, numbers, live) => match live {
             Some(links) => {
                 let row = links.row(node);
-                let differ = differ_by_links(numbers, right.values, movers, row, scratch)?;
+                let values = rounds.right.values;
+                let differ = differ_by_links(numbers, values, rounds.movers, row, scratch)?;
                 Ok(Some(differ))
             }
             None => Ok(None),
@@ -82,38 +65,23 @@ pub fn differ_if_listed<U: Updater>(
     }
 }
 
-// Whether these nodes send different messages in two rounds, as multisets, where those of the first round are kept and it
-// is told which nodes may send something else. The message of a node is the same along each edge.
+// Whether these nodes send different messages in two rounds, as multisets, where those of the first round are kept. The message
+// of a node is the same along each edge.
 fn differ_by_tails(
-    program: &Program,
-    graph: &Graph,
-    left: &Side<'_>,
-    right: &Side<'_>,
-    movers: Movers<'_>,
+    rounds: &TwoRounds<'_>,
     tails: &[NodeNo],
     scratch: &mut Scratch,
 ) -> Result<bool, NoMemory>
-    requires checked { IsChecked program.now graph.now }
-    requires edge { 0 < length graph.now.ends }
-    requires tails { All (λ t. t.0 < length graph.now.ids) tails.now }
-    requires left { IsSized graph.now left.now.edges.now left.now.degrees.now left.now.values.now }
-    requires right { IsSized graph.now right.now.edges.now right.now.degrees.now right.now.values.now }
-    requires movers { (u : ℕ) → u < length graph.now.ids → InMovers movers u }
-    requires still { AreStill program.now graph.now movers left.now.degrees.now left.now.values.now right.now.degrees.now right.now.values.now }
-    requires alike { left.now.alike ≡ true }
-    requires sent { AreSent left.now.alike program.now graph.now left.now.degrees.now left.now.values.now left.now.sent.now }
-    ensures { IfOk result (λ b. b ≡ not (are_one same_value
-        (sent_by_tails program.now graph.now left.now.degrees.now left.now.values.now tails.now)
-        (sent_by_tails program.now graph.now right.now.degrees.now right.now.values.now tails.now))) }
+    requires rounds { AreTwoRounds rounds.now }
+    requires edge { 0 < length rounds.now.left.now.graph.now.ends }
+    requires tails { All (λ t. t.0 < length rounds.now.left.now.graph.now.ids) tails.now }
+    requires alike { rounds.now.left.now.side.alike ≡ true }
+    ensures { IfOk result (λ b. b ≡ send_other rounds.now tails.now) }
 {
     scratch.left.clear();
     scratch.right.clear();
     fill_by_tails(
-        program,
-        graph,
-        left,
-        right,
-        movers,
+        rounds,
         tails,
         &mut scratch.picked,
         &mut scratch.left,
@@ -125,35 +93,24 @@ fn differ_by_tails(
 // Puts into two lists what these nodes send in two rounds, without what they send in both. Those that may send something else
 // are picked first, into a list that may hold anything.
 fn fill_by_tails(
-    program: &Program,
-    graph: &Graph,
-    left: &Side<'_>,
-    right: &Side<'_>,
-    movers: Movers<'_>,
+    rounds: &TwoRounds<'_>,
     tails: &[NodeNo],
     picked: &mut Vec<NodeNo>,
     first: &mut Vec<Val>,
     second: &mut Vec<Val>,
 ) -> Result<(), NoMemory>
-    requires checked { IsChecked program.now graph.now }
-    requires edge { 0 < length graph.now.ends }
-    requires tails { All (λ t. t.0 < length graph.now.ids) tails.now }
-    requires left { IsSized graph.now left.now.edges.now left.now.degrees.now left.now.values.now }
-    requires right { IsSized graph.now right.now.edges.now right.now.degrees.now right.now.values.now }
-    requires movers { (u : ℕ) → u < length graph.now.ids → InMovers movers u }
-    requires still { AreStill program.now graph.now movers left.now.degrees.now left.now.values.now right.now.degrees.now right.now.values.now }
-    requires alike { left.now.alike ≡ true }
-    requires sent { AreSent left.now.alike program.now graph.now left.now.degrees.now left.now.values.now left.now.sent.now }
+    requires rounds { AreTwoRounds rounds.now }
+    requires edge { 0 < length rounds.now.left.now.graph.now.ends }
+    requires tails { All (λ t. t.0 < length rounds.now.left.now.graph.now.ids) tails.now }
+    requires alike { rounds.now.left.now.side.alike ≡ true }
     requires first { first.old.items ≡ [] }
     requires second { second.old.items ≡ [] }
-    ensures { OnOk result (AreLeft first.new.items second.new.items
-        (sent_by_tails program.now graph.now left.now.degrees.now left.now.values.now tails.now)
-        (sent_by_tails program.now graph.now right.now.degrees.now right.now.values.now tails.now)) }
+    ensures { OnOk result (AreLeft first.new.items second.new.items (left_sent rounds.now tails.now) (right_sent rounds.now tails.now)) }
 {
-    let form = form_of(program);
-    let count = pick(movers, tails, picked)?;
+    let form = form_of(rounds.left.program);
+    let count = pick(rounds.movers, tails, picked)?;
     for tail in &picked[..count] {
-        push_from_tail(form, program, graph, left, right, *tail, first, second)?;
+        push_from_tail(form, rounds, *tail, first, second)?;
     }
     Ok(())
 }
@@ -176,32 +133,28 @@ fn pick(movers: Movers<'_>, tails: &[NodeNo], picked: &mut Vec<NodeNo>) -> Resul
 // Adds to two lists what a node sends in two rounds, but to neither what it sends in both, given the form of the message.
 fn push_from_tail(
     form: Form,
-    program: &Program,
-    graph: &Graph,
-    left: &Side<'_>,
-    right: &Side<'_>,
+    rounds: &TwoRounds<'_>,
     tail: NodeNo,
     first: &mut Vec<Val>,
     second: &mut Vec<Val>,
 ) -> Result<(), NoMemory>
-    requires form { HasForm program.now form }
-    requires checked { IsChecked program.now graph.now }
-    requires edge { 0 < length graph.now.ends }
-    requires tail { tail.0 < length graph.now.ids }
-    requires left { IsSized graph.now left.now.edges.now left.now.degrees.now left.now.values.now }
-    requires right { IsSized graph.now right.now.edges.now right.now.degrees.now right.now.values.now }
-    requires alike { left.now.alike ≡ true }
-    requires sent { AreSent left.now.alike program.now graph.now left.now.degrees.now left.now.values.now left.now.sent.now }
+    requires form { HasForm rounds.now.left.now.program.now form }
+    requires rounds { AreTwoRounds rounds.now }
+    requires edge { 0 < length rounds.now.left.now.graph.now.ends }
+    requires tail { tail.0 < length rounds.now.left.now.graph.now.ids }
+    requires alike { rounds.now.left.now.side.alike ≡ true }
     ensures { OnOk result ((all more : List Val) → AreLeft first.old.items second.old.items all more → AreLeft first.new.items second.new.items
-        (all ++ filter is_sent (sent_by_tail program.now graph.now left.now.degrees.now left.now.values.now tail ∷ []))
-        (more ++ filter is_sent (sent_by_tail program.now graph.now right.now.degrees.now right.now.values.now tail ∷ []))) }
+        (all ++ filter is_sent (left_sends rounds.now tail ∷ []))
+        (more ++ filter is_sent (right_sends rounds.now tail ∷ []))) }
 {
     let place = tail.0 as usize;
-    let here = kept(left.sent, place);
+    let left = rounds.left;
+    let right = rounds.right;
+    let here = kept(left.side.sent, place);
     let there = send_by(
         form,
-        program,
-        graph,
+        left.program,
+        left.graph,
         tail,
         right.values[place],
         right.degrees[place],

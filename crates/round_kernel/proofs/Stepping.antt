@@ -11,7 +11,7 @@ use Rattle.change_lists.specs.declared.history.Change.{Change}
 use Rattle.waiting_nodes.specs.declared.queue.Queue.{Queue}
 use Rattle.round_kernel.specs.declared.frame.Frame.{Frame}
 use Rattle.round_kernel.specs.declared.frame.Lists.{Lists}
-use Rattle.round_kernel.specs.declared.visit.Made.{Made}
+use Rattle.round_kernel.specs.declared.made.Made.{Made}
 use Rattle.change_lists.specs.ChangeLists.{HasNodes, is_listed, is_changed, mark_if, change_if}
 use Rattle.waiting_nodes.specs.Queues.{waits, IsQueue}
 use Rattle.round_kernel.specs.Frames.{StandAt, AreCalm, HasSome, IsKept, touched_at, counted_at, marked_at, was_touched_at, lone_at, count_in, changes_at, new_arcs, old_arcs}

@@ -83,11 +83,16 @@ module _ (answer : Answer) (p : Program) (graph : GraphData) (all : List Arc) (f
     unmoved : (u : ℕ) → u < length graph.ids → (get_or moved u 0 == s) ≡ false → value_at (lone answer p graph (arcs_in all new) r) u ≡ value_at (lone answer p graph (arcs_in all new) (r - 1)) u
     unmoved u low still = is.moved later u low (λ e. eqb-false (get_or moved u 0) s still (ap (λ (ns : List ℕ). get_or ns u 0) em ∙ e ∙ sym es))
 
+    -- the values of a node
+    pub values-same : (u : ℕ) → u < length graph.ids → (get_or moved u 0 == s) ≡ false → (now before : List Val) → now ≡ lone answer p graph (arcs_in all new) r → before ≡ lone answer p graph (arcs_in all new) (r - 1)
+        → value_at now u ≡ value_at before u
+    values-same u low still now before en eb = ap (λ (vs : List Val). value_at vs u) en ∙ unmoved u low still ∙ ap (λ (vs : List Val). value_at vs u) (sym eb)
+
     -- its own value
     pub own-same : v < length graph.ids → (get_or moved v 0 == s) ≡ false → (now before : List Val) → now ≡ lone answer p graph (arcs_in all new) r → before ≡ lone answer p graph (arcs_in all new) (r - 1)
         → false ≡ not (same_value (value_at now v) (value_at before v))
     own-same low still now before en eb =
-        let one : value_at now v ≡ value_at before v = ap (λ (vs : List Val). value_at vs v) en ∙ unmoved v low still ∙ ap (λ (vs : List Val). value_at vs v) (sym eb) in
+        let one = values-same v low still now before en eb in
         sym (ap not (ap (λ (x : Val). same_value x (value_at before v)) one ∙ values-exact.itself (value_at before v)))
 
     pub same-rounds : (row : List Arc) → row ≡ row_of all v → All (λ a. (get_or moved a.tail.0 0 == s) ≡ false) row

@@ -22,7 +22,7 @@ use Rattle.arc_rows.specs.RowLists.{AreRows}
 use Rattle.waiting_nodes.specs.Queues.{waits}
 use Rattle.value_codes.specs.declared.tally.Kept.{Kept}
 use Rattle.value_codes.specs.Tallies.{kept_of, no_tally}
-use Rattle.round_kernel.specs.Rounds.{kept_at, old_view, AreAt, was_touched}
+use Rattle.round_kernel.specs.Rounds.{kept_at, old_view, AreAt, TellParted, was_touched}
 
 -- the arcs of the new view, and of the view before if there's one
 abbrev pub new_arcs : Frame → List Arc
@@ -61,6 +61,10 @@ count_in f = length f.graph.now.ids
 -- the lists stand at a round
 abbrev pub StandAt : Answer → Frame → ℕ → (ℕ → Bool) → Lists → Type 0
 StandAt answer f r touched lists = AreAt answer f.program.now f.graph.now f.rows.now.by_head f.first f.old.now f.new.now r touched lists
+
+-- a node that changes from a round to the next, and isn't told to be parted, has the same value in both views in the round
+abbrev pub TellPartedAt : Answer → Frame → ℕ → List Bool → Type 0
+TellPartedAt answer f r parted = TellParted answer f.program.now f.graph.now (arcs_in f.rows.now.by_head f.old.now) (new_arcs f) r parted
 
 -- what a step is given
 pub record IsFrame (answer : Answer) (f : Frame) (rounds : ℕ) : Type 0 where

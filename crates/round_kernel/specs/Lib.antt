@@ -8,3 +8,6 @@ pub mod Rounds
 pub mod Flags
 pub mod Steps
 pub mod Lookups
+pub mod Spots
+pub mod Changes
+pub mod Plans

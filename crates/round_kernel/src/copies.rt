@@ -5,7 +5,7 @@ ghost use Rattle.change_lists.specs.ChangeLists.{is_listed};
 ghost use Rattle.round_kernel.specs.Frames.{stirs, StandAt, touched_at, count_in};
 
 use crate::frame::{Frame, Lists};
-use crate::visit::Made;
+use crate::made::Made;
 use change_lists::{Change, push_change};
 use graph_model::NodeNo;
 use surge_outside::{List, NoMemory};

@@ -11,7 +11,7 @@ use change_lists::History;
 use graph_model::{Graph, NodeNo, Val};
 use message_forms::may_keep;
 use round_inputs::Scratch;
-use round_messages::send_all;
+use round_messages::{Sender, send_all};
 use std::alloc::Global;
 use std::rc::Rc;
 use surge_outside::{List, NoMemory};
@@ -60,7 +60,7 @@ pub(crate) struct Lists {
     pub(crate) touched: Vec<bool>,
     /// The nodes to be visited that have a mark in this round of the view before.
     pub(crate) marked: Vec<bool>,
-    /// The same nodes, as a list.
+    /// These nodes as a list.
     pub(crate) shown: List<NodeNo>,
     /// The tails of arcs whose edge is in one of the two views alone.
     pub(crate) watched: Vec<bool>,
@@ -97,14 +97,12 @@ impl Lists {
             new: new_degrees,
         } = degrees;
         let may = may_keep(frame.program, frame.graph);
-        let (alike, new_sent) = send_all(
-            alloc,
-            frame.program,
-            frame.graph,
-            may,
-            values,
-            &new_degrees,
-        )?;
+        let sender = Sender {
+            program: frame.program,
+            graph: frame.graph,
+            degrees: &new_degrees,
+        };
+        let (alike, new_sent) = send_all(alloc, &sender, may, values)?;
         let touched = vec![in alloc; frame.first; size]?;
         let marked = vec![in alloc; false; size]?;
         let watched = watch(alloc, size, frame.turned)?;

@@ -1,16 +1,16 @@
 //! What makes the visits of a round fast.
 
-ghost use Rattle.std.specs.Prelude.{◌<◌, ◌+◌, IfOk, OnOk, IsTrue};
+ghost use Rattle.std.specs.Prelude.{◌<◌, ◌+◌, IfOk, OnOk};
 ghost use Rattle.round_kernel.specs.Lookups.{StandLookups};
-ghost use Rattle.round_kernel.specs.Frames.{AreStirred, IsFrame, StandAt, count_in, lone_at, was_touched_at};
-ghost use Rattle.change_lists.specs.ChangeLists.{HasChanges};
+ghost use Rattle.round_kernel.specs.Frames.{IsFrame, StandAt, was_touched_at};
+ghost use Rattle.round_kernel.specs.Changes.{HasMade};
 ghost use Rattle.arc_rows.specs.Listings.{IsListed};
 
 use crate::frame::{Frame, Lists};
+use crate::made::Made;
 use crate::source::{first_source, next_source, with_arcs};
 use crate::suspects::Suspects;
 use arc_rows::Listed;
-use change_lists::Change;
 use round_inputs::MessageSource;
 use std::alloc::Global;
 use std::mem;
@@ -79,28 +79,24 @@ impl Lookups {
         Ok(())
     }
 
-    /// One round on, given what changes to it in the new view, where few touched nodes change what may have to be told of what changes
-    /// in either, and the lists as they stand in it.
+    /// One round on, given what changes to it, and the lists as they stand in it.
     pub(crate) fn go_on<U: Updater>(
         &mut self,
         frame: Frame<'_>,
         round: u32,
         lists: &Lists,
-        new: &[Change],
-        few: bool,
-        stirred: &[Change],
+        made: &Made,
         updater: &U,
     )
         requires frame { IsFrame U.answer frame frame.limit }
         requires round { round < frame.limit }
         requires at { StandAt U.answer frame (round + 1) (was_touched_at U.answer frame (round + 1)) lists.now }
-        requires new { HasChanges (count_in frame) (lone_at U.answer frame round) (lone_at U.answer frame (round + 1)) new.now }
-        requires stirred { IsTrue few → AreStirred U.answer frame round stirred.now }
+        requires made { HasMade U.answer frame round made.now }
         requires lookups { StandLookups U.answer frame round self.old }
         ensures lookups { StandLookups U.answer frame.entry (round + 1) self.new }
     {
+        let new = made.changes.as_slice();
         next_source(&mut self.source, frame, round, lists, new, updater);
-        self.suspects
-            .go_on(frame, round, lists, new, few, stirred, updater);
+        self.suspects.go_on(frame, round, lists, made, updater);
     }
 }

@@ -134,7 +134,7 @@ fn tails_of(
     }
 }
 
-// The same, with a property of the edge.
+// The tails of the arcs of the new view, each with a property of its edge, made where they aren't kept yet.
 fn links_of(
     alloc: Global,
     frame: Frame<'_>,

@@ -1,38 +1,36 @@
 //! The step from a view to the next.
 
-ghost use Rattle.std.specs.Prelude.{◌≡◌, ◌≢◌, ◌<◌, ◌≤◌, ◌+◌, ◌-◌, ◌++◌, ◌∷◌, [], ℕ, true, false, None, Some, length, get_or, All, IfOk, OnOk, IsTrue, IsFalse};
-ghost use Rattle.vertex_lang.specs.Leaves.{IsChecked};
-ghost use Rattle.vertex_lang.specs.Lone.{number_of, answer_of};
-ghost use Rattle.vertex_lang.specs.Rounds.{lone};
+ghost use Rattle.std.specs.Prelude.{◌≡◌, ◌≢◌, ◌<◌, ◌≤◌, ◌+◌, ◌-◌, ◌++◌, ◌∷◌, [], ℕ, true, false, length, get_or, IfOk, OnOk, IsTrue, IsFalse};
+ghost use Rattle.vertex_lang.specs.Lone.{number_of};
 ghost use Rattle.lone_work.specs.Work.{work};
-ghost use Rattle.arc_rows.specs.Views.{arcs_in, TellsAll};
 ghost use Rattle.arc_rows.specs.Counts.{AreBoth};
-ghost use Rattle.round_kernel.specs.Histories.{IsHistory};
-ghost use Rattle.change_lists.specs.ChangeLists.{changes_from, all_from};
 ghost use Rattle.arc_rows.specs.Listings.{IsListed};
 ghost use Rattle.arc_rows.specs.RowLists.{AreAlong};
+ghost use Rattle.arc_rows.specs.Views.{arcs_in};
+ghost use Rattle.round_kernel.specs.Changes.{StandsBefore};
+ghost use Rattle.round_kernel.specs.Frames.{IsFrame, new_arcs, old_arcs, count_in};
 ghost use Rattle.round_kernel.specs.Kernels.{IsKernel};
-ghost use Rattle.round_kernel.specs.Rounds.{AreIdle};
-ghost use Rattle.round_kernel.specs.Frames.{AreStirred, IsFrame, StandAt, new_arcs, old_arcs, was_touched_at, count_in, AreKept};
-ghost use Rattle.round_kernel.specs.Lookups.{StandLookups};
+ghost use Rattle.round_kernel.specs.Plans.{IsBehind, IsFirst, IsNext, MayRun};
 ghost use Rattle.round_kernel.specs.Steps.{HasRounds, IsRun, outcome_of};
 
 use crate::frame::{Frame, Lists};
 use crate::kernel::Kernel;
 use crate::lookups::Lookups;
+use crate::made::Made;
+use crate::plan::{Behind, Plan};
 use crate::round::{go_on, run_round};
 use crate::sorted::in_node_order;
 use crate::source::listed_in;
 use crate::spare::{Spare, kept_of};
-use crate::visit::Made;
-use arc_rows::{CachedArcs, Degrees, Listed};
+use crate::state::State;
+use arc_rows::{CachedArcs, Degrees, Listed, TwoViews};
 use change_lists::{ChainedLists, Change, History, all_changes, changes_between};
-use graph_model::{EdgeNo, Graph};
+use graph_model::Graph;
 use std::alloc::Global;
 use std::mem;
 use surge_outside::{List, NoMemory};
 use value_codes::Kept;
-use vertex_lang::{Outcome, Program, Rounds, Updater, arcs_of, names_outdeg};
+use vertex_lang::{Outcome, Rounds, Updater, arcs_of, names_outdeg};
 
 /// What a step gives.
 #[derive(Debug, Drop)]
@@ -47,29 +45,83 @@ pub struct Stepped {
     pub work: u64,
 }
 
-/// Steps the first view of a segment. The error is want of memory.
-pub fn first_step<U: Updater>(
+impl Kernel {
+    /// Steps a view that none stands before, with these edges, so many of them. Where they are less than half of those of the graph,
+    /// it goes over their arcs alone. The error is want of memory.
+    pub fn first_step<U: Updater>(
+        &mut self,
+        alloc: Global,
+        plan: Plan<'_>,
+        edges: &[bool],
+        count: u64,
+        updater: &mut U,
+    ) -> Result<Stepped, NoMemory>
+        requires plan { MayRun plan self.old }
+        requires edges { length edges.now ≡ length plan.graph.now.ends }
+        ensures kernel { OnOk result (IsKernel plan.entry.graph.now self.new) }
+        ensures rows { self.new.rows ≡ self.old.rows }
+        ensures step { IfOk result (IsFirst U.answer plan.entry (arcs_in self.old.rows.by_head edges.now)) }
+        ensures calls { IfOk result (λ s. U.calls updater.new ≡ U.calls updater.old + s.work) }
+    {
+        if are_few(plan.graph, count) {
+            let mut chosen = self.within(alloc, plan.graph, edges, edges)?;
+            return first_step(alloc, plan, &mut chosen, edges, updater);
+        }
+        first_step(alloc, plan, self, edges, updater)
+    }
+
+    /// Steps a view behind another one, where so many edges are in one of the two or in both. Where they are less than half of those of
+    /// the graph, it goes over their arcs alone. The error is want of memory.
+    pub fn next_step<U: Updater>(
+        &mut self,
+        alloc: Global,
+        plan: Plan<'_>,
+        behind: Behind<'_>,
+        count: u64,
+        updater: &mut U,
+    ) -> Result<Stepped, NoMemory>
+        requires plan { MayRun plan self.old }
+        requires along { AreAlong plan.program.now.along plan.graph.now self.old.rows }
+        requires behind { IsBehind U.answer plan self.old behind }
+        ensures kernel { OnOk result (IsKernel plan.entry.graph.now self.new) }
+        ensures rows { self.new.rows ≡ self.old.rows }
+        ensures step { IfOk result (IsNext U.answer plan.entry (arcs_in self.old.rows.by_head behind.entry.old.now) (arcs_in self.old.rows.by_head behind.entry.new.now)) }
+        ensures calls { IfOk result (λ s. U.calls updater.new ≡ U.calls updater.old + s.work) }
+    {
+        if are_few(plan.graph, count) {
+            let mut chosen = self.within(alloc, plan.graph, behind.old, behind.new)?;
+            return next_step(alloc, plan, &mut chosen, behind, updater);
+        }
+        next_step(alloc, plan, self, behind, updater)
+    }
+}
+
+// Whether so many edges are less than half of those of the graph: then their arcs are filtered first, since a step goes over arcs
+// more than once.
+fn are_few(graph: &Graph, count: u64) -> bool {
+    count < u64::from(graph.edge_count()) / 2
+}
+
+// Steps a view that none stands before, over all arcs of the kernel.
+fn first_step<U: Updater>(
     alloc: Global,
-    program: &Program,
-    graph: &Graph,
+    plan: Plan<'_>,
     kernel: &mut Kernel,
     edges: &[bool],
-    rounds: Rounds,
     updater: &mut U,
 ) -> Result<Stepped, NoMemory>
-    requires checked { IsChecked program.now graph.now }
-    requires kernel { IsKernel graph.now kernel.old }
-    requires edges { length edges.now ≡ length graph.now.ends }
-    requires some { 1 ≤ number_of rounds }
-    requires limit { number_of rounds ≤ 1_000_000 }
-    ensures kernel { OnOk result (IsKernel graph.now kernel.new) }
+    requires plan { MayRun plan kernel.old }
+    requires edges { length edges.now ≡ length plan.graph.now.ends }
+    ensures kernel { OnOk result (IsKernel plan.entry.graph.now kernel.new) }
     ensures rows { kernel.new.rows ≡ kernel.old.rows }
-    ensures history { IfOk result (λ s. IsHistory U.answer program.now graph.now (Some (arcs_in kernel.old.rows.by_head edges.now)) (number_of rounds) s.history) }
-    ensures outcome { IfOk result (λ s. s.outcome ≡ (answer_of U.answer program.now graph.now (arcs_in kernel.old.rows.by_head edges.now) rounds).outcome) }
-    ensures change { IfOk result (λ s. s.change ≡ all_from 0 (lone U.answer program.now graph.now (arcs_in kernel.old.rows.by_head edges.now) (number_of rounds))) }
-    ensures work { IfOk result (λ s. s.work ≡ work U.answer program.now graph.now (arcs_in kernel.old.rows.by_head edges.now) None (number_of rounds)) }
+    ensures step { IfOk result (IsFirst U.answer plan.entry (arcs_in kernel.old.rows.by_head edges.now)) }
     ensures calls { IfOk result (λ s. U.calls updater.new ≡ U.calls updater.old + s.work) }
 {
+    let Plan {
+        program,
+        graph,
+        rounds,
+    } = plan;
     nodes_are_few(graph);
     let nothing = History::new(alloc);
     let none = vec![in alloc; false; edges.len()]?;
@@ -103,73 +155,52 @@ pub fn first_step<U: Updater>(
     })
 }
 
-/// Steps a view behind another in its segment, given the history of that one, which edges are in the one and the other, and
-/// all edges that are in one of them alone. The error is want of memory.
-pub fn next_step<U: Updater>(
+// Steps a view behind another one, over all arcs of the kernel.
+fn next_step<U: Updater>(
     alloc: Global,
-    program: &Program,
-    graph: &Graph,
+    plan: Plan<'_>,
     kernel: &mut Kernel,
-    history: &History,
-    old: &[bool],
-    new: &[bool],
-    turned: &[EdgeNo],
-    rounds: Rounds,
+    behind: Behind<'_>,
     updater: &mut U,
 ) -> Result<Stepped, NoMemory>
-    requires checked { IsChecked program.now graph.now }
-    requires kernel { IsKernel graph.now kernel.old }
-    requires old { length old.now ≡ length graph.now.ends }
-    requires new { length new.now ≡ length graph.now.ends }
-    requires some { 1 ≤ number_of rounds }
-    requires limit { number_of rounds ≤ 1_000_000 }
-    requires along { AreAlong program.now.along graph.now kernel.old.rows }
-    requires turned { All (λ e. e.0 < length graph.now.ends) turned.now }
-    requires all_turned { TellsAll old.now new.now turned.now }
-    requires history { IsHistory U.answer program.now graph.now (Some (arcs_in kernel.old.rows.by_head old.now)) (number_of rounds) history.now }
-    ensures kernel { OnOk result (IsKernel graph.now kernel.new) }
+    requires plan { MayRun plan kernel.old }
+    requires along { AreAlong plan.program.now.along plan.graph.now kernel.old.rows }
+    requires behind { IsBehind U.answer plan kernel.old behind }
+    ensures kernel { OnOk result (IsKernel plan.entry.graph.now kernel.new) }
     ensures rows { kernel.new.rows ≡ kernel.old.rows }
-    ensures history { IfOk result (λ s. IsHistory U.answer program.now graph.now (Some (arcs_in kernel.old.rows.by_head new.now)) (number_of rounds) s.history) }
-    ensures outcome { IfOk result (λ s. s.outcome ≡ (answer_of U.answer program.now graph.now (arcs_in kernel.old.rows.by_head new.now) rounds).outcome) }
-    ensures change { IfOk result (λ s. s.change ≡ changes_from 0 (lone U.answer program.now graph.now (arcs_in kernel.old.rows.by_head old.now) (number_of rounds)) (lone U.answer program.now graph.now (arcs_in kernel.old.rows.by_head new.now) (number_of rounds))) }
-    ensures work { IfOk result (λ s. s.work ≡ work U.answer program.now graph.now (arcs_in kernel.old.rows.by_head new.now) (Some (arcs_in kernel.old.rows.by_head old.now)) (number_of rounds)) }
+    ensures step { IfOk result (IsNext U.answer plan.entry (arcs_in kernel.old.rows.by_head behind.entry.old.now) (arcs_in kernel.old.rows.by_head behind.entry.new.now)) }
     ensures calls { IfOk result (λ s. U.calls updater.new ≡ U.calls updater.old + s.work) }
 {
+    let Plan {
+        program,
+        graph,
+        rounds,
+    } = plan;
     nodes_are_few(graph);
-    let arcs = arcs_of(alloc, graph, program.along, turned)?;
+    let arcs = arcs_of(alloc, graph, program.along, behind.turned)?;
     let by_degree = names_outdeg(&program.send);
     let cached = mem::replace(&mut kernel.cached, CachedArcs::nothing(alloc));
     let spare = mem::replace(&mut kernel.spare, Spare::nothing(alloc));
     let kept = kept_of(alloc, spare.kept, graph.node_count())?;
-    let (listed, known, flags) = cached.turned(
-        alloc,
+    let views = TwoViews {
         graph,
-        &kernel.rows,
-        old,
-        new,
-        arcs.as_slice(),
-        turned,
-    )?;
-    let degrees = Degrees::turned(
-        alloc,
-        by_degree,
-        graph,
-        &kernel.rows,
-        known,
-        spare.degrees,
-        old,
-        new,
-        arcs.as_slice(),
-    )?;
+        rows: &kernel.rows,
+        old: behind.old,
+        new: behind.new,
+        edges: behind.turned,
+        arcs: arcs.as_slice(),
+    };
+    let (listed, known, flags) = cached.turned(alloc, &views)?;
+    let degrees = Degrees::turned(alloc, by_degree, &views, known, spare.degrees)?;
     let frame = Frame {
         program,
         graph,
         rows: &kernel.rows,
         first: false,
-        old,
-        new,
+        old: behind.old,
+        new: behind.new,
         by_degree,
-        history,
+        history: behind.history,
         turned: arcs.as_slice(),
         limit: limit_of(rounds),
     };
@@ -182,7 +213,7 @@ pub fn next_step<U: Updater>(
         &run.lists.new_now,
     )?;
     kernel.spare = Spare::of(run.kept, by_degree, run.lists.degrees());
-    kernel.cached = CachedArcs::of(alloc, new, flags, run.listed, counted);
+    kernel.cached = CachedArcs::of(alloc, behind.new, flags, run.listed, counted);
     Ok(Stepped {
         outcome: outcome(&run.history, rounds),
         history: run.history,
@@ -207,7 +238,7 @@ fn run_rounds<U: Updater>(
     frame: Frame<'_>,
     degrees: Degrees,
     listed: Listed,
-    mut kept: Vec<Kept>,
+    kept: Vec<Kept>,
     updater: &mut U,
 ) -> Result<Run, NoMemory>
     requires frame { IsFrame U.answer frame frame.limit }
@@ -219,26 +250,28 @@ fn run_rounds<U: Updater>(
     ensures run { IfOk result (IsRun U.answer frame.entry) }
     ensures calls { IfOk result (λ run. U.calls updater.new ≡ U.calls updater.old + run.work) }
 {
-    let mut lists = Lists::new(alloc, frame, degrees, updater)?;
-    let mut lookups = Lookups::new(alloc, frame, &lists, listed, updater)?;
+    let lists = Lists::new(alloc, frame, degrees, updater)?;
+    let lookups = Lookups::new(alloc, frame, &lists, listed, updater)?;
     let mut history = History::beside(alloc, frame.history)?;
-    let mut made = Made::new(alloc, frame.graph.node_count())?;
+    let made = Made::new(alloc, frame.graph.node_count())?;
+    let mut state = State {
+        lists,
+        kept,
+        lookups,
+        made,
+    };
     let mut work = 0;
     let mut round = 0;
     while round < frame.limit && !is_quiet(frame.history, &history, round) {
-        work += run_one(
-            alloc,
-            frame,
-            round,
-            &mut history,
-            &mut lists,
-            &mut kept,
-            &mut lookups,
-            &mut made,
-            updater,
-        )?;
+        work += run_one(alloc, frame, round, &mut history, &mut state, updater)?;
         round += 1;
     }
+    let State {
+        lists,
+        kept,
+        lookups,
+        made: _,
+    } = state;
     trim(&mut history.changes);
     history.starts = Some(lists.starts.clone()?);
     Ok(Run {
@@ -265,62 +298,31 @@ fn run_one<U: Updater>(
     frame: Frame<'_>,
     round: u32,
     history: &mut History,
-    lists: &mut Lists,
-    kept: &mut [Kept],
-    lookups: &mut Lookups,
-    made: &mut Made,
+    state: &mut State,
     updater: &mut U,
 ) -> Result<u64, NoMemory>
     requires frame { IsFrame U.answer frame frame.limit }
     requires round { round < frame.limit }
     requires history { HasRounds U.answer frame round history.old }
-    requires stirred { 0 < round → IsTrue made.old.few → AreStirred U.answer frame (round - 1) made.old.stirred }
-    requires at { StandAt U.answer frame round (was_touched_at U.answer frame round) lists.old }
-    requires idle { AreIdle lists.old }
-    requires kept_size { length kept.old ≡ count_in frame }
-    requires kept { 0 < round → AreKept U.answer frame (round - 1) (was_touched_at U.answer frame round) kept.old }
-    requires lookups { StandLookups U.answer frame round lookups.old }
-    ensures lookups { OnOk result (StandLookups U.answer frame.entry (round + 1) lookups.new) }
+    requires state { StandsBefore U.answer frame round state.old }
     ensures history { OnOk result (HasRounds U.answer frame.entry (round + 1) history.new) }
-    ensures at { OnOk result (StandAt U.answer frame.entry (round + 1) (was_touched_at U.answer frame.entry (round + 1)) lists.new) }
-    ensures idle { OnOk result (AreIdle lists.new) }
-    ensures kept_size { length kept.new ≡ count_in frame.entry }
-    ensures kept { OnOk result (AreKept U.answer frame.entry round (was_touched_at U.answer frame.entry (round + 1)) kept.new) }
-    ensures stirred { OnOk result (IsTrue made.new.few → AreStirred U.answer frame.entry round made.new.stirred) }
+    ensures state { OnOk result (StandsBefore U.answer frame.entry (round + 1) state.new) }
     ensures work { IfOk result (λ n. work U.answer frame.entry.program.now frame.entry.graph.now (new_arcs frame.entry) (old_arcs frame.entry) (round + 1) ≡ work U.answer frame.entry.program.now frame.entry.graph.now (new_arcs frame.entry) (old_arcs frame.entry) round + n) }
     ensures few { IfOk result (λ n. n ≤ 1_000_000) }
     ensures calls { IfOk result (λ n. U.calls updater.new ≡ U.calls updater.old + n) }
 {
     let before = history.changes_before(round);
-    let work = run_round(alloc, frame, round, lists, kept, lookups, made, updater)?;
-    go_on(
-        alloc,
-        frame,
-        before,
-        made.changes.as_slice(),
-        made.few,
-        made.stirred.as_slice(),
-        round,
+    let work = run_round(alloc, frame, round, state, updater)?;
+    let State {
         lists,
-        updater,
-    );
-    lookups.go_on(
-        frame,
-        round,
-        lists,
-        made.changes.as_slice(),
-        made.few,
-        made.stirred.as_slice(),
-        updater,
-    );
-    in_node_order(
-        frame,
-        round,
-        lists,
-        &lookups.suspects,
-        &mut made.changes,
-        updater,
-    )?;
+        kept: _,
+        lookups,
+        made,
+    } = state;
+    go_on(alloc, frame, round, before, made, lists, updater);
+    lookups.go_on(frame, round, lists, made, updater);
+    let suspects = &lookups.suspects;
+    in_node_order(frame, round, lists, suspects, &mut made.changes, updater)?;
     add_round(alloc, history, round, made, frame.graph.node_count())?;
     Ok(work)
 }

@@ -1,14 +1,15 @@
 //! Which nodes may send something else in two rounds: in those of two views, or in a round and the one before it.
 
-ghost use Rattle.std.specs.Prelude.{◌≡◌, ◌<◌, ◌+◌, ◌==◌, ◌≢◌, ℕ, true, false, filter, length, get_or, All, IfOk, IsTrue};
+ghost use Rattle.std.specs.Prelude.{◌≡◌, ◌<◌, ◌+◌, ◌==◌, ◌≢◌, ℕ, true, false, filter, length, get_or, All, IfOk};
 ghost use Rattle.vertex_lang.specs.Ignoring.{IgnoresOutdeg};
-ghost use Rattle.round_kernel.specs.Frames.{AreStirred, IsFrame, StandAt, count_in, lone_at, was_touched_at};
-ghost use Rattle.change_lists.specs.ChangeLists.{HasChanges};
+ghost use Rattle.round_kernel.specs.Frames.{IsFrame, StandAt, count_in, was_touched_at};
+ghost use Rattle.round_kernel.specs.Changes.{HasMade};
 ghost use Rattle.round_kernel.specs.Suspects.{StandSuspects, stamp};
 ghost use Rattle.round_kernel.specs.Flags.{IsFlagged, IsSettled, AreLong, AreSet};
 ghost use Rattle.arc_rows.specs.RowLists.{IsGrouped};
 
 use crate::frame::{Frame, Lists};
+use crate::made::Made;
 use arc_rows::Turned;
 use change_lists::{Change, is_other};
 use graph_model::NodeNo;
@@ -60,32 +61,29 @@ impl Suspects {
         self.turned.coming_to(node)
     }
 
-    /// One round on, given what changes to it in the new view, where few touched nodes change what may have to be told of what changes
-    /// in either, and the lists as they stand in it. Where there is no view before, nobody asks which nodes differ.
+    /// One round on, given what changes to it, and the lists as they stand in it. Where there is no view before, nobody asks which
+    /// nodes differ.
     pub(crate) fn go_on<U: Updater>(
         &mut self,
         frame: Frame<'_>,
         round: u32,
         lists: &Lists,
-        new: &[Change],
-        few: bool,
-        stirred: &[Change],
+        made: &Made,
         _updater: &U,
     )
         requires frame { IsFrame U.answer frame frame.limit }
         requires round { round < frame.limit }
         requires at { StandAt U.answer frame (round + 1) (was_touched_at U.answer frame (round + 1)) lists.now }
-        requires new { HasChanges (count_in frame) (lone_at U.answer frame round) (lone_at U.answer frame (round + 1)) new.now }
-        requires stirred { IsTrue few → AreStirred U.answer frame round stirred.now }
+        requires made { HasMade U.answer frame round made.now }
         requires suspects { StandSuspects U.answer frame round self.old }
         ensures { StandSuspects U.answer frame.entry (round + 1) self.new }
     {
-        self.move_all(round + 1, new);
+        self.move_all(round + 1, made.changes.as_slice());
         if frame.first {
             return;
         }
-        if few {
-            self.part_all(frame, lists, stirred);
+        if made.few {
+            self.part_all(frame, lists, made.stirred.as_slice());
         } else {
             self.part_everyone(frame, lists);
         }

@@ -32,7 +32,7 @@ pub(crate) fn start_values(
     Ok(values)
 }
 
-/// The same, given those that are known.
+/// The values with which the nodes start, made where none are known.
 pub(crate) fn known_starts(
     alloc: Global,
     program: &Program,

@@ -10,5 +10,5 @@
 mod sending;
 mod side;
 
-pub use sending::{apply, send_all};
+pub use sending::{Sender, apply, send_all};
 pub use side::{Side, kept, message, sends_nothing, tally};

@@ -1,15 +1,13 @@
 //! What an arc brings in a round of a view.
 
-ghost use Rattle.std.specs.Prelude.{◌≡◌, ◌<◌, ◌^◌, not, length, get_or, All, IsTrue};
+ghost use Rattle.std.specs.Prelude.{◌≡◌, ◌<◌, ◌^◌, not, length, All, IsTrue};
 ghost use Rattle.graph_model.specs.declared.value.Val.{Val};
 ghost use Rattle.vertex_lang.specs.Leaves.{IsChecked};
 ghost use Rattle.vertex_lang.specs.Arcs.{IsArc};
 ghost use Rattle.graph_model.specs.declared.value.Val.TheVariants.{Nil};
 ghost use Rattle.vertex_lang.specs.Values.{added};
-ghost use Rattle.vertex_lang.specs.Rounds.{value_at};
-ghost use Rattle.vertex_lang.specs.Expressions.{sent_by};
 ghost use Rattle.message_forms.specs.Codes.{number_at};
-ghost use Rattle.round_messages.specs.Sides.{brings, all_brought, AreSent, IsSized};
+ghost use Rattle.round_messages.specs.Sides.{all_brought_in, brings_in, IsSide, sends_in};
 ghost use Rattle.value_codes.specs.Tallies.{tally_of};
 
 use change_lists::differs;
@@ -34,9 +32,8 @@ pub struct Side<'a> {
 pub fn message(program: &Program, graph: &Graph, side: &Side<'_>, arc: Arc) -> Val
     requires checked { IsChecked program.now graph.now }
     requires arc { IsArc graph.now arc }
-    requires sized { IsSized graph.now side.now.edges.now side.now.degrees.now side.now.values.now }
-    requires sent { AreSent side.now.alike program.now graph.now side.now.degrees.now side.now.values.now side.now.sent.now }
-    ensures { result ≡ brings program.now graph.now side.now.edges.now side.now.degrees.now side.now.values.now arc }
+    requires side { IsSide program.now graph.now side.now }
+    ensures { result ≡ brings_in program.now graph.now side.now arc }
 {
     if side.edges[arc.edge.0 as usize] {
         send_along(program, graph, side, arc)
@@ -50,9 +47,8 @@ pub fn message(program: &Program, graph: &Graph, side: &Side<'_>, arc: Arc) -> V
 fn send_along(program: &Program, graph: &Graph, side: &Side<'_>, arc: Arc) -> Val
     requires checked { IsChecked program.now graph.now }
     requires arc { IsArc graph.now arc }
-    requires sized { IsSized graph.now side.now.edges.now side.now.degrees.now side.now.values.now }
-    requires sent { AreSent side.now.alike program.now graph.now side.now.degrees.now side.now.values.now side.now.sent.now }
-    ensures { result ≡ sent_by program.now graph.now arc.tail.0 (value_at side.now.values.now arc.tail.0) (get_or side.now.degrees.now arc.tail.0 0) arc.edge.0 }
+    requires side { IsSide program.now graph.now side.now }
+    ensures { result ≡ sends_in program.now graph.now side.now arc }
 {
     let tail = arc.tail.0 as usize;
     if side.alike {
@@ -75,9 +71,8 @@ fn send_along(program: &Program, graph: &Graph, side: &Side<'_>, arc: Arc) -> Va
 pub fn sends_nothing(program: &Program, graph: &Graph, side: &Side<'_>, arc: Arc) -> bool
     requires checked { IsChecked program.now graph.now }
     requires arc { IsArc graph.now arc }
-    requires sized { IsSized graph.now side.now.edges.now side.now.degrees.now side.now.values.now }
-    requires sent { AreSent side.now.alike program.now graph.now side.now.degrees.now side.now.values.now side.now.sent.now }
-    ensures { IsTrue result → sent_by program.now graph.now arc.tail.0 (value_at side.now.values.now arc.tail.0) (get_or side.now.degrees.now arc.tail.0 0) arc.edge.0 ≡ Nil }
+    requires side { IsSide program.now graph.now side.now }
+    ensures { IsTrue result → sends_in program.now graph.now side.now arc ≡ Nil }
 {
     !differs(send_along(program, graph, side, arc), Val::Nil)
 }
@@ -95,9 +90,8 @@ pub fn tally(program: &Program, graph: &Graph, side: &Side<'_>, row: &[Arc]) -> 
     requires checked { IsChecked program.now graph.now }
     requires row { All (IsArc graph.now) row.now }
     requires few { length row.now < 2 ^ 32 }
-    requires sized { IsSized graph.now side.now.edges.now side.now.degrees.now side.now.values.now }
-    requires sent { AreSent side.now.alike program.now graph.now side.now.degrees.now side.now.values.now side.now.sent.now }
-    ensures { result ≡ tally_of program.now.gather (all_brought program.now graph.now side.now.edges.now side.now.degrees.now side.now.values.now row.now) }
+    requires side { IsSide program.now graph.now side.now }
+    ensures { result ≡ tally_of program.now.gather (all_brought_in program.now graph.now side.now row.now) }
 {
     let mut tally = Tally::new();
     for arc in row {

@@ -16,7 +16,7 @@ use crate::counting::decide;
 use crate::placing::{cut, mark_of, put};
 use graph_model::{Graph, ViewNo};
 use result_tables::{Results, Table};
-use round_kernel::Kernel;
+use round_kernel::{Kernel, Plan};
 use segment_split::SplitRule;
 use std::alloc::Global;
 use surge_outside::{List, NoMemory};
@@ -265,15 +265,12 @@ impl<'g> Engine<'g> {
         ensures err { OnErr result (IsAsBefore self.old self.new) }
     {
         let mut kernel = take_kernel(self.alloc, &mut self.kernel, self.graph, self.program.along)?;
-        let given = self.segments[segment].step(
-            self.alloc,
-            self.graph,
-            self.program,
-            self.rounds,
-            matrix,
-            &mut kernel,
-            updater,
-        )?;
+        let plan = Plan {
+            program: self.program,
+            graph: self.graph,
+            rounds: self.rounds,
+        };
+        let given = self.segments[segment].step(self.alloc, plan, matrix, &mut kernel, updater)?;
         self.kernel = Some(kernel);
         match hold(self.alloc, &mut self.results, &given) {
             Ok(()) => Ok(given.kept),

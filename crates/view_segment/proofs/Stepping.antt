@@ -25,46 +25,46 @@ use Rattle.view_segment.proofs.Transport.{history-permuted, work-permuted}
 module _ (answer : Answer) (s : Setting) (kernel : Kernel) (is : IsSetting s kernel) where
   -- the arcs of the view, in another order
   pub same-arcs : (v : ℕ) (flags : List Bool) → flags ≡ flags_of s.matrix.now v → IsPermutation (view_arcs (task_in answer s) v) (arcs_in kernel.rows.by_head flags)
-  same-arcs v flags e = subst (λ (bs : List Bool). IsPermutation (view_arcs (task_in answer s) v) (arcs_in kernel.rows.by_head bs)) (sym e) (view-chosen s.program.now.along s.graph.now kernel.rows s.matrix.now v is.along is.matrix)
+  same-arcs v flags e = subst (λ (bs : List Bool). IsPermutation (view_arcs (task_in answer s) v) (arcs_in kernel.rows.by_head bs)) (sym e) (view-chosen s.plan.program.now.along s.plan.graph.now kernel.rows s.matrix.now v is.along is.matrix)
 
-  pub history-before : (v : ℕ) (flags : List Bool) (h : History) → flags ≡ flags_of s.matrix.now v → IsHistory answer s.program.now s.graph.now (Some (view_arcs (task_in answer s) v)) (number_of s.rounds) h
-      → IsHistory answer s.program.now s.graph.now (Some (arcs_in kernel.rows.by_head flags)) (number_of s.rounds) h
-  history-before v flags h e known = history-permuted answer s.program.now s.graph.now (view_arcs (task_in answer s) v) (arcs_in kernel.rows.by_head flags) (number_of s.rounds) h (same-arcs v flags e) known
+  pub history-before : (v : ℕ) (flags : List Bool) (h : History) → flags ≡ flags_of s.matrix.now v → IsHistory answer s.plan.program.now s.plan.graph.now (Some (view_arcs (task_in answer s) v)) (number_of s.plan.rounds) h
+      → IsHistory answer s.plan.program.now s.plan.graph.now (Some (arcs_in kernel.rows.by_head flags)) (number_of s.plan.rounds) h
+  history-before v flags h e known = history-permuted answer s.plan.program.now s.plan.graph.now (view_arcs (task_in answer s) v) (arcs_in kernel.rows.by_head flags) (number_of s.plan.rounds) h (same-arcs v flags e) known
 
   module _ (v : ℕ) (flags : List Bool) (e : flags ≡ flags_of s.matrix.now v) (t : Stepped)
-      (history : IsHistory answer s.program.now s.graph.now (Some (arcs_in kernel.rows.by_head flags)) (number_of s.rounds) t.history)
-      (outcome : t.outcome ≡ (answer_of answer s.program.now s.graph.now (arcs_in kernel.rows.by_head flags) s.rounds).outcome) where
+      (history : IsHistory answer s.plan.program.now s.plan.graph.now (Some (arcs_in kernel.rows.by_head flags)) (number_of s.plan.rounds) t.history)
+      (outcome : t.outcome ≡ (answer_of answer s.plan.program.now s.plan.graph.now (arcs_in kernel.rows.by_head flags) s.plan.rounds).outcome) where
     back : IsPermutation (arcs_in kernel.rows.by_head flags) (view_arcs (task_in answer s) v)
     back = IsPermutation-sym (view_arcs (task_in answer s) v) (arcs_in kernel.rows.by_head flags) (same-arcs v flags e)
 
-    values-are : lone answer s.program.now s.graph.now (arcs_in kernel.rows.by_head flags) (number_of s.rounds) ≡ lone answer s.program.now s.graph.now (view_arcs (task_in answer s) v) (number_of s.rounds)
-    values-are = permuted-arcs answer s.program.now s.graph.now (arcs_in kernel.rows.by_head flags) (view_arcs (task_in answer s) v) (number_of s.rounds) back
+    values-are : lone answer s.plan.program.now s.plan.graph.now (arcs_in kernel.rows.by_head flags) (number_of s.plan.rounds) ≡ lone answer s.plan.program.now s.plan.graph.now (view_arcs (task_in answer s) v) (number_of s.plan.rounds)
+    values-are = permuted-arcs answer s.plan.program.now s.plan.graph.now (arcs_in kernel.rows.by_head flags) (view_arcs (task_in answer s) v) (number_of s.plan.rounds) back
 
-    outcome-is : t.outcome ≡ (answer_of answer s.program.now s.graph.now (view_arcs (task_in answer s) v) s.rounds).outcome
-    outcome-is = outcome ∙ ap (λ (l : Lone). l.outcome) (answer_permuted answer s.program.now s.graph.now (arcs_in kernel.rows.by_head flags) (view_arcs (task_in answer s) v) s.rounds back)
+    outcome-is : t.outcome ≡ (answer_of answer s.plan.program.now s.plan.graph.now (view_arcs (task_in answer s) v) s.plan.rounds).outcome
+    outcome-is = outcome ∙ ap (λ (l : Lone). l.outcome) (answer_permuted answer s.plan.program.now s.plan.graph.now (arcs_in kernel.rows.by_head flags) (view_arcs (task_in answer s) v) s.plan.rounds back)
 
-    pub first-given : t.change ≡ all_from 0 (lone answer s.program.now s.graph.now (arcs_in kernel.rows.by_head flags) (number_of s.rounds))
-        → t.work ≡ work answer s.program.now s.graph.now (arcs_in kernel.rows.by_head flags) None (number_of s.rounds)
+    pub first-given : t.change ≡ all_from 0 (lone answer s.plan.program.now s.plan.graph.now (arcs_in kernel.rows.by_head flags) (number_of s.plan.rounds))
+        → t.work ≡ work answer s.plan.program.now s.plan.graph.now (arcs_in kernel.rows.by_head flags) None (number_of s.plan.rounds)
         → IsStep (task_in answer s) None v t
     first-given change works = record {
-      history = history-permuted answer s.program.now s.graph.now (arcs_in kernel.rows.by_head flags) (view_arcs (task_in answer s) v) (number_of s.rounds) t.history back history;
+      history = history-permuted answer s.plan.program.now s.plan.graph.now (arcs_in kernel.rows.by_head flags) (view_arcs (task_in answer s) v) (number_of s.plan.rounds) t.history back history;
       outcome = outcome-is;
       change = change ∙ ap (λ (vs : List Val). all_from 0 vs) values-are;
-      work = works ∙ work-permuted answer s.program.now s.graph.now (arcs_in kernel.rows.by_head flags) (view_arcs (task_in answer s) v) None None (number_of s.rounds) back tt;
+      work = works ∙ work-permuted answer s.plan.program.now s.plan.graph.now (arcs_in kernel.rows.by_head flags) (view_arcs (task_in answer s) v) None None (number_of s.plan.rounds) back tt;
     }
 
     pub later-given : (u : ℕ) (old : List Bool) → old ≡ flags_of s.matrix.now u
-        → t.change ≡ changes_from 0 (lone answer s.program.now s.graph.now (arcs_in kernel.rows.by_head old) (number_of s.rounds)) (lone answer s.program.now s.graph.now (arcs_in kernel.rows.by_head flags) (number_of s.rounds))
-        → t.work ≡ work answer s.program.now s.graph.now (arcs_in kernel.rows.by_head flags) (Some (arcs_in kernel.rows.by_head old)) (number_of s.rounds)
+        → t.change ≡ changes_from 0 (lone answer s.plan.program.now s.plan.graph.now (arcs_in kernel.rows.by_head old) (number_of s.plan.rounds)) (lone answer s.plan.program.now s.plan.graph.now (arcs_in kernel.rows.by_head flags) (number_of s.plan.rounds))
+        → t.work ≡ work answer s.plan.program.now s.plan.graph.now (arcs_in kernel.rows.by_head flags) (Some (arcs_in kernel.rows.by_head old)) (number_of s.plan.rounds)
         → IsStep (task_in answer s) (Some u) v t
     later-given u old d change works =
         let before = view_arcs (task_in answer s) u in
         let olds = arcs_in kernel.rows.by_head old in
         let swap = IsPermutation-sym before olds (same-arcs u old d) in
-        let old_values = permuted-arcs answer s.program.now s.graph.now olds before (number_of s.rounds) swap in
+        let old_values = permuted-arcs answer s.plan.program.now s.plan.graph.now olds before (number_of s.plan.rounds) swap in
         record {
-          history = history-permuted answer s.program.now s.graph.now (arcs_in kernel.rows.by_head flags) (view_arcs (task_in answer s) v) (number_of s.rounds) t.history back history;
+          history = history-permuted answer s.plan.program.now s.plan.graph.now (arcs_in kernel.rows.by_head flags) (view_arcs (task_in answer s) v) (number_of s.plan.rounds) t.history back history;
           outcome = outcome-is;
-          change = change ∙ ap (λ (vs : List Val). changes_from 0 vs (lone answer s.program.now s.graph.now (arcs_in kernel.rows.by_head flags) (number_of s.rounds))) old_values ∙ ap (λ (vs : List Val). changes_from 0 (lone answer s.program.now s.graph.now before (number_of s.rounds)) vs) values-are;
-          work = works ∙ work-permuted answer s.program.now s.graph.now (arcs_in kernel.rows.by_head flags) (view_arcs (task_in answer s) v) (Some olds) (Some before) (number_of s.rounds) back swap;
+          change = change ∙ ap (λ (vs : List Val). changes_from 0 vs (lone answer s.plan.program.now s.plan.graph.now (arcs_in kernel.rows.by_head flags) (number_of s.plan.rounds))) old_values ∙ ap (λ (vs : List Val). changes_from 0 (lone answer s.plan.program.now s.plan.graph.now before (number_of s.plan.rounds)) vs) values-are;
+          work = works ∙ work-permuted answer s.plan.program.now s.plan.graph.now (arcs_in kernel.rows.by_head flags) (view_arcs (task_in answer s) v) (Some olds) (Some before) (number_of s.plan.rounds) back swap;
         }

@@ -1,14 +1,14 @@
 -- What a step is given, and what it gives.
-use Rattle.std.specs.Prelude.{◌≡◌, ◌≤◌, ℕ, Bool, false, not, List, length, map, get_or, slice_set, Option, Some}
+use Rattle.std.specs.Prelude.{◌≡◌, ℕ, Bool, false, not, List, length, map, get_or, slice_set, Option, Some}
 use Rattle.std.specs.List.{range_with_len}
 use Rattle.graph_model.specs.declared.number.EdgeNo.{EdgeNo}
 use Rattle.vertex_lang.specs.Expressions.{Answer}
-use Rattle.vertex_lang.specs.Leaves.{IsChecked}
 use Rattle.vertex_lang.specs.Lone.{number_of}
 use Rattle.round_kernel.specs.declared.kernel.Kernel.{Kernel}
+use Rattle.round_kernel.specs.declared.plan.Plan.{Plan}
 use Rattle.round_kernel.specs.declared.step.Stepped.{Stepped}
 use Rattle.round_kernel.specs.Histories.{IsHistory}
-use Rattle.round_kernel.specs.Kernels.{IsKernel}
+use Rattle.round_kernel.specs.Plans.{MayRun}
 use Rattle.arc_rows.specs.RowLists.{AreOfAll}
 use Rattle.view_matrix.specs.Matrices.{MatrixData, bit_of}
 use Rattle.view_segment.specs.declared.step.Setting.{Setting}
@@ -24,15 +24,16 @@ abbrev pub with_turned : List Bool → EdgeNo → List Bool
 with_turned flags e = slice_set flags e.0 (not (get_or flags e.0 false))
 
 pub record IsSetting (s : Setting) (k : Kernel) : Type 0 where
-  pub checked : IsChecked s.program.now s.graph.now
-  pub some : 1 ≤ number_of s.rounds
-  pub limit : number_of s.rounds ≤ 1_000_000
-  pub kernel : IsKernel s.graph.now k
-  pub along : AreOfAll s.program.now.along s.graph.now k.rows
-  pub matrix : length s.matrix.now.live ≡ length s.graph.now.ends
+  pub plan : MayRun s.plan k
+  pub along : AreOfAll s.plan.program.now.along s.plan.graph.now k.rows
+  pub matrix : length s.matrix.now.live ≡ length s.plan.graph.now.ends
+
+-- the task of a plan over the views of a matrix
+abbrev pub task_of : Answer → Plan → MatrixData → Task
+task_of answer plan m = task_over answer plan.program.now plan.graph.now plan.rounds m
 
 abbrev pub task_in : Answer → Setting → Task
-task_in answer s = task_over answer s.program.now s.graph.now s.rounds s.matrix.now
+task_in answer s = task_of answer s.plan s.matrix.now
 
 -- what a step gives of a view behind another one, or behind none
 pub record IsStep (task : Task) (before : Option ℕ) (v : ℕ) (s : Stepped) : Type 0 where

@@ -2,23 +2,22 @@
 
 ghost use Rattle.std.specs.Prelude.{◌≡◌, ◌<◌, ◌≤◌, ◌+◌, ◌++◌, ◌∷◌, [], length, take, All, IfOk, OnOk, OnErr, None};
 ghost use Rattle.std.specs.Prelude.{◌==◌};
-ghost use Rattle.vertex_lang.specs.Leaves.{IsChecked};
-ghost use Rattle.vertex_lang.specs.Lone.{number_of};
 ghost use Rattle.round_kernel.specs.Kernels.{IsKernel};
+ghost use Rattle.round_kernel.specs.Plans.{MayRun};
 ghost use Rattle.arc_rows.specs.RowLists.{AreOfAll};
 ghost use Rattle.view_matrix.specs.Matrices.{IsView};
-ghost use Rattle.view_segment.specs.Tasks.{task_over, work_of};
+ghost use Rattle.view_segment.specs.Tasks.{work_of};
 ghost use Rattle.view_segment.specs.Segments.{last_stepped, place_of, taken_back, SegmentStands, IsGiven};
-ghost use Rattle.view_segment.specs.Steps.{IsSetting, IsStep, flags_of, task_in};
+ghost use Rattle.view_segment.specs.Steps.{IsSetting, IsStep, flags_of, task_in, task_of};
 
-use crate::step::{Setting, step_first, step_later};
+use crate::step::{Before, Setting, step_first, step_later};
 use change_lists::{Change, History};
-use graph_model::{Graph, ViewNo};
-use round_kernel::{Kernel, Stepped};
+use graph_model::ViewNo;
+use round_kernel::{Kernel, Plan, Stepped};
 use std::alloc::Global;
 use std::mem;
 use surge_outside::{List, NoMemory};
-use vertex_lang::{Outcome, Program, Rounds, Updater};
+use vertex_lang::{Outcome, Updater};
 use view_matrix::Matrix;
 
 /// Views that are run one after the other. Of the last one that was stepped its history is kept, and of each its work.
@@ -118,37 +117,27 @@ impl Segment {
     pub fn step<U: Updater>(
         &mut self,
         alloc: Global,
-        graph: &Graph,
-        program: &Program,
-        rounds: Rounds,
+        plan: Plan<'_>,
         matrix: &Matrix,
         kernel: &mut Kernel,
         updater: &mut U,
     ) -> Result<Given, NoMemory>
-        requires checked { IsChecked program.now graph.now }
-        requires some { 1 ≤ number_of rounds }
-        requires limit { number_of rounds ≤ 1_000_000 }
-        requires kernel { IsKernel graph.now kernel.old }
-        requires along { AreOfAll program.now.along graph.now kernel.old.rows }
-        requires matrix { length matrix.now.live ≡ length graph.now.ends }
+        requires plan { MayRun plan kernel.old }
+        requires along { AreOfAll plan.program.now.along plan.graph.now kernel.old.rows }
+        requires matrix { length matrix.now.live ≡ length plan.graph.now.ends }
         requires views { All (IsView matrix.now) self.old.views }
         requires unfinished { length self.old.works < length self.old.views }
-        requires stands { SegmentStands (task_over U.answer program.now graph.now rounds matrix.now) self.old }
-        ensures kernel { OnOk result (IsKernel graph.now kernel.new) }
+        requires stands { SegmentStands (task_of U.answer plan matrix.now) self.old }
+        ensures kernel { OnOk result (IsKernel plan.entry.graph.now kernel.new) }
         ensures rows { kernel.new.rows ≡ kernel.old.rows }
-        ensures stands { OnOk result (SegmentStands (task_over U.answer program.now graph.now rounds matrix.now) self.new) }
+        ensures stands { OnOk result (SegmentStands (task_of U.answer plan.entry matrix.now) self.new) }
         ensures views { OnOk result (self.new.views ≡ self.old.views) }
-        ensures work { IfOk result (λ given. self.new.works ≡ self.old.works ++ (work_of (task_over U.answer program.now graph.now rounds matrix.now) (last_stepped self.old) given.view.0 ∷ [])) }
-        ensures given { IfOk result (IsGiven (task_over U.answer program.now graph.now rounds matrix.now) self.old) }
+        ensures work { IfOk result (λ given. self.new.works ≡ self.old.works ++ (work_of (task_of U.answer plan.entry matrix.now) (last_stepped self.old) given.view.0 ∷ [])) }
+        ensures given { IfOk result (IsGiven (task_of U.answer plan.entry matrix.now) self.old) }
         ensures err { OnErr result (self.new ≡ self.old) }
-        ensures calls { IfOk result (λ given. U.calls updater.new ≡ U.calls updater.old + work_of (task_over U.answer program.now graph.now rounds matrix.now) (last_stepped self.old) given.view.0) }
+        ensures calls { IfOk result (λ given. U.calls updater.new ≡ U.calls updater.old + work_of (task_of U.answer plan.entry matrix.now) (last_stepped self.old) given.view.0) }
     {
-        let setting = Setting {
-            program,
-            graph,
-            rounds,
-            matrix,
-        };
+        let setting = Setting { plan, matrix };
         let view = self.views.as_slice()[self.works.len()];
         let (before, stepped, flags) = self.step_view(alloc, setting, kernel, view, updater)?;
         let Stepped {
@@ -186,7 +175,7 @@ impl Segment {
         requires views { All (IsView setting.matrix.now) self.now.views }
         requires view { IsView setting.matrix.now view }
         requires stands { SegmentStands (task_in U.answer setting) self.now }
-        ensures kernel { OnOk result (IsKernel setting.entry.graph.now kernel.new) }
+        ensures kernel { OnOk result (IsKernel setting.entry.plan.graph.now kernel.new) }
         ensures rows { kernel.new.rows ≡ kernel.old.rows }
         ensures before { IfOk result (λ made. place_of made.0 ≡ last_stepped self.now) }
         ensures step { IfOk result (λ made. IsStep (task_in U.answer setting.entry) (last_stepped self.now) view.0 made.1) }
@@ -200,16 +189,12 @@ impl Segment {
             }
             Some(history) => {
                 let before = self.views.as_slice()[self.works.len() - 1];
-                let (stepped, flags) = step_later(
-                    alloc,
-                    setting,
-                    kernel,
-                    before,
+                let last = Before {
+                    view: before,
                     history,
-                    &self.flags,
-                    view,
-                    updater,
-                )?;
+                    flags: &self.flags,
+                };
+                let (stepped, flags) = step_later(alloc, setting, kernel, last, view, updater)?;
                 Ok((Some(before), stepped, flags))
             }
         }

@@ -16,25 +16,28 @@ use Rattle.change_lists.specs.declared.history.History.{History}
 use Rattle.arc_rows.specs.Views.{arcs_in}
 use Rattle.round_kernel.specs.declared.kernel.Kernel.{Kernel}
 use Rattle.round_kernel.specs.declared.step.Stepped.{Stepped}
+use Rattle.round_kernel.specs.declared.plan.Plan.{Plan}
 use Rattle.round_kernel.specs.Histories.{IsHistory}
+use Rattle.round_kernel.specs.Plans.{IsFirst, IsNext}
 use Rattle.view_matrix.specs.Matrices.{MatrixData}
 use Rattle.view_segment.specs.Tasks.{task_over, view_arcs}
 use Rattle.view_versions.specs.declared.step.Setting.{Setting}
 use Rattle.view_versions.specs.Flags.{flags_of}
 use Rattle.view_versions.specs.Runs.{IsSetting, IsStepOf, StepIn}
 use Rattle.view_versions.proofs.Choosing.{view-chosen}
-use Rattle.view_versions.proofs.Results.{ok-so, ok-three}
+use Rattle.view_versions.proofs.Results.{ok-so}
 use Rattle.view_versions.proofs.Transport.{AreReordered, history-permuted, work-permuted}
 
--- the parts of a step
-pub step-of : {E : Type 0} (answer : Answer) (p : Program) (graph : GraphData) (rounds : Rounds) (before : Option (List Arc)) (arcs : List Arc) (r : Result Stepped E)
-    → IfOk r (λ s. IsHistory answer p graph (Some arcs) (number_of rounds) s.history)
-    → IfOk r (λ s. s.outcome ≡ (answer_of answer p graph arcs rounds).outcome)
-    → IfOk r (λ s. s.work ≡ work answer p graph arcs before (number_of rounds))
-    → IfOk r (IsStepOf answer p graph rounds before arcs)
-step-of answer p graph rounds before arcs r =
-    ok-three r (λ s. IsHistory answer p graph (Some arcs) (number_of rounds) s.history) (λ s. s.outcome ≡ (answer_of answer p graph arcs rounds).outcome) (λ s. s.work ≡ work answer p graph arcs before (number_of rounds))
-    (IsStepOf answer p graph rounds before arcs) (λ s h o w. record { history = h; outcome = o; work_is = w })
+-- what the kernel gives of a view that none stands before, and of one behind another
+pub first-of : {E : Type 0} (answer : Answer) (plan : Plan) (arcs : List Arc) (r : Result Stepped E) → IfOk r (IsFirst answer plan arcs)
+    → IfOk r (IsStepOf answer plan.program.now plan.graph.now plan.rounds None arcs)
+first-of answer plan arcs r =
+    ok-so r (IsFirst answer plan arcs) (IsStepOf answer plan.program.now plan.graph.now plan.rounds None arcs) (λ s is. record { history = is.history; outcome = is.outcome; work_is = is.work_is })
+
+pub next-of : {E : Type 0} (answer : Answer) (plan : Plan) (old new : List Arc) (r : Result Stepped E) → IfOk r (IsNext answer plan old new)
+    → IfOk r (IsStepOf answer plan.program.now plan.graph.now plan.rounds (Some old) new)
+next-of answer plan old new r =
+    ok-so r (IsNext answer plan old new) (IsStepOf answer plan.program.now plan.graph.now plan.rounds (Some old) new) (λ s is. record { history = is.history; outcome = is.outcome; work_is = is.work_is })
 
 -- the same arcs in another order
 pub reordered : (answer : Answer) (p : Program) (graph : GraphData) (rounds : Rounds) (us vs : Option (List Arc)) (xs ys : List Arc) (s : Stepped) → IsPermutation xs ys → AreReordered us vs

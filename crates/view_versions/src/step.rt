@@ -14,7 +14,7 @@ ghost use Rattle.view_versions.specs.Runs.{IsSetting, StepIn, task_in, task_befo
 use crate::flags::{TwoFlags, flags_between, flags_edited};
 use change_lists::History;
 use graph_model::{EdgeNo, Graph, ViewNo};
-use round_kernel::{Kernel, Stepped, first_step, next_step};
+use round_kernel::{Behind, Kernel, Plan, Stepped};
 use std::alloc::Global;
 use surge_outside::NoMemory;
 use vertex_lang::{Program, Rounds, Updater};
@@ -44,16 +44,14 @@ pub(crate) fn step_first<U: Updater>(
     ensures rows { kernel.new.rows ≡ kernel.old.rows }
     ensures calls { IfOk result (λ s. U.calls updater.new ≡ U.calls updater.old + s.work) }
 {
+    let plan = Plan {
+        program: setting.program,
+        graph: setting.graph,
+        rounds: setting.rounds,
+    };
     let edges = setting.matrix.flags(alloc, view)?;
-    first_step(
-        alloc,
-        setting.program,
-        setting.graph,
-        kernel,
-        &edges,
-        setting.rounds,
-        updater,
-    )
+    let count = u64::from(setting.graph.edge_count());
+    kernel.first_step(alloc, plan, &edges, count, updater)
 }
 
 /// Steps a view behind another one, given the history of that one. The error is want of memory.
@@ -120,16 +118,17 @@ fn step_over<U: Updater>(
     ensures rows { kernel.new.rows ≡ kernel.old.rows }
     ensures calls { IfOk result (λ s. U.calls updater.new ≡ U.calls updater.old + s.work) }
 {
-    next_step(
-        alloc,
-        setting.program,
-        setting.graph,
-        kernel,
+    let plan = Plan {
+        program: setting.program,
+        graph: setting.graph,
+        rounds: setting.rounds,
+    };
+    let behind = Behind {
         history,
-        &two.old,
-        &two.new,
-        two.turned.as_slice(),
-        setting.rounds,
-        updater,
-    )
+        old: &two.old,
+        new: &two.new,
+        turned: two.turned.as_slice(),
+    };
+    let count = u64::from(setting.graph.edge_count());
+    kernel.next_step(alloc, plan, behind, count, updater)
 }

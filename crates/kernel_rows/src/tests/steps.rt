@@ -4,7 +4,7 @@ ghost use Rattle.std.specs.Prelude.{◌≡◌, ◌<◌, ◌≤◌, Some, length}
 ghost use Rattle.vertex_lang.specs.Leaves.{IsChecked};
 ghost use Rattle.vertex_lang.specs.Lone.{number_of};
 ghost use Rattle.round_kernel.specs.Histories.{IsHistory};
-ghost use Rattle.round_kernel.specs.Kernels.{IsKernel};
+ghost use Rattle.round_kernel.specs.Plans.{MayRun};
 ghost use Rattle.arc_rows.specs.RowLists.{AreAlong};
 ghost use Rattle.arc_rows.specs.Views.{arcs_in};
 
@@ -12,7 +12,7 @@ use crate::tests::views::{EDGE, FOUR, TWO, WAYS, graph_in, turned};
 use change_lists::{Change, History};
 use graph_algos::hops;
 use graph_model::{Graph, Val};
-use round_kernel::{Kernel, Stepped, first_step, next_step};
+use round_kernel::{Behind, Kernel, Plan, Stepped};
 use std::alloc::{AllocError, Global};
 use std::marker::Brand;
 use std::sync::ledger::{Blank, Ledger};
@@ -71,29 +71,28 @@ fn told(alloc: Global, stepped: &Stepped) -> Result<String, AllocError> {
 // The step of a view behind another one.
 fn later_step<U: Updater>(
     alloc: Global,
-    program: &Program,
-    graph: &Graph,
+    plan: Plan<'_>,
     kernel: &mut Kernel,
     history: &History,
     old: &[bool],
     new: &[bool],
-    rounds: Rounds,
     updater: &mut U,
 ) -> Result<String, NoMemory>
-    requires checked { IsChecked program.now graph.now }
-    requires kernel { IsKernel graph.now kernel.old }
-    requires along { AreAlong program.now.along graph.now kernel.old.rows }
-    requires old { length old.now ≡ length graph.now.ends }
-    requires new { length new.now ≡ length graph.now.ends }
-    requires some { 1 ≤ number_of rounds }
-    requires limit { number_of rounds ≤ 1_000_000 }
-    requires history { IsHistory U.answer program.now graph.now (Some (arcs_in kernel.old.rows.by_head old.now)) (number_of rounds) history.now }
+    requires plan { MayRun plan kernel.old }
+    requires along { AreAlong plan.program.now.along plan.graph.now kernel.old.rows }
+    requires old { length old.now ≡ length plan.graph.now.ends }
+    requires new { length new.now ≡ length plan.graph.now.ends }
+    requires history { IsHistory U.answer plan.program.now plan.graph.now (Some (arcs_in kernel.old.rows.by_head old.now)) (number_of plan.rounds) history.now }
 {
-    graph.edge_count();
+    let count = u64::from(plan.graph.edge_count());
     let turned = turned(alloc, old, new)?;
-    let stepped = next_step(
-        alloc, program, graph, kernel, history, old, new, &turned, rounds, updater,
-    )?;
+    let behind = Behind {
+        history,
+        old,
+        new,
+        turned: &turned,
+    };
+    let stepped = kernel.next_step(alloc, plan, behind, count, updater)?;
     Ok(told(alloc, &stepped)?)
 }
 
@@ -121,19 +120,15 @@ fn steps<U: Updater>(
     requires limit { number_of rounds ≤ 1_000_000 }
 {
     let mut kernel = Kernel::new(alloc, graph, program.along)?;
-    let stepped = first_step(alloc, program, graph, &mut kernel, old, rounds, updater)?;
-    let history = &stepped.history;
-    let later = later_step(
-        alloc,
+    let plan = Plan {
         program,
         graph,
-        &mut kernel,
-        history,
-        old,
-        new,
         rounds,
-        updater,
-    )?;
+    };
+    let count = u64::from(graph.edge_count());
+    let stepped = kernel.first_step(alloc, plan, old, count, updater)?;
+    let history = &stepped.history;
+    let later = later_step(alloc, plan, &mut kernel, history, old, new, updater)?;
     joined(alloc, &stepped, later.as_str())
 }
 

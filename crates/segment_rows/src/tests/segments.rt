@@ -1,9 +1,8 @@
 //! Segments of hop counts, stepped to their end, as text.
 
 ghost use Rattle.std.specs.Prelude.{◌≡◌, ◌<◌, ◌≤◌, [], length, All, IfOk, None};
-ghost use Rattle.vertex_lang.specs.Leaves.{IsChecked};
 ghost use Rattle.vertex_lang.specs.Lone.{number_of};
-ghost use Rattle.round_kernel.specs.Kernels.{IsKernel};
+ghost use Rattle.round_kernel.specs.Plans.{MayRun};
 ghost use Rattle.arc_rows.specs.RowLists.{AreOfAll};
 ghost use Rattle.view_matrix.specs.Matrices.{IsView};
 ghost use Rattle.view_segment.specs.Segments.{SegmentStands};
@@ -14,13 +13,13 @@ use edge_predicates::ViewRule;
 use graph_algos::hops;
 use graph_loader::load;
 use graph_model::{Graph, Val, ViewNo};
-use round_kernel::Kernel;
+use round_kernel::{Kernel, Plan};
 use std::alloc::{AllocError, Global};
 use std::marker::Brand;
 use std::sync::ledger::{Blank, Ledger};
 use std::test::Fail;
 use surge_outside::{List, NoMemory, Steps};
-use vertex_lang::{Outcome, Program, Rounds, Updater};
+use vertex_lang::{Outcome, Rounds, Updater};
 use view_matrix::Matrix;
 use view_segment::{Given, Segment};
 
@@ -86,26 +85,21 @@ fn given_text(alloc: Global, given: &Given) -> Result<String, AllocError> {
 // Steps each view of a segment that was not stepped yet.
 fn step_all<U: Updater>(
     alloc: Global,
-    graph: &Graph,
-    program: &Program,
-    rounds: Rounds,
+    plan: Plan<'_>,
     matrix: &Matrix,
     kernel: &mut Kernel,
     segment: &mut Segment,
     updater: &mut U,
 ) -> Result<String, NoMemory>
-    requires checked { IsChecked program.now graph.now }
-    requires some { 1 ≤ number_of rounds }
-    requires limit { number_of rounds ≤ 1_000_000 }
-    requires kernel { IsKernel graph.now kernel.old }
-    requires along { AreOfAll program.now.along graph.now kernel.old.rows }
-    requires matrix { length matrix.now.live ≡ length graph.now.ends }
+    requires plan { MayRun plan kernel.old }
+    requires along { AreOfAll plan.program.now.along plan.graph.now kernel.old.rows }
+    requires matrix { length matrix.now.live ≡ length plan.graph.now.ends }
     requires views { All (IsView matrix.now) segment.old.views }
-    requires stands { SegmentStands (task_over U.answer program.now graph.now rounds matrix.now) segment.old }
+    requires stands { SegmentStands (task_over U.answer plan.program.now plan.graph.now plan.rounds matrix.now) segment.old }
 {
     let mut text = String::new(alloc);
     while segment.works().len() < segment.views().len() {
-        let given = segment.step(alloc, graph, program, rounds, matrix, kernel, updater)?;
+        let given = segment.step(alloc, plan, matrix, kernel, updater)?;
         text.push_str(given_text(alloc, &given)?.as_str())?;
     }
     Ok(text)
@@ -140,16 +134,12 @@ fn hops_in<L: Ledger>(
     let matrix = Matrix::build(alloc, graph, &live, rules)?;
     let mut kernel = Kernel::new(alloc, graph, program.along)?;
     let mut segment = whole(alloc, &matrix)?;
-    let mut text = step_all(
-        alloc,
+    let plan = Plan {
+        program: &program,
         graph,
-        &program,
         rounds,
-        &matrix,
-        &mut kernel,
-        &mut segment,
-        &mut steps,
-    )?;
+    };
+    let mut text = step_all(alloc, plan, &matrix, &mut kernel, &mut segment, &mut steps)?;
     text.push_str(works_text(alloc, &segment)?.as_str())?;
     Ok(text)
 }

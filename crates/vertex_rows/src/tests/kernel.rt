@@ -2,17 +2,19 @@
 
 ghost use Rattle.std.specs.Prelude.{◌≡◌, ◌<◌, ◌≤◌, Bool, List, Some, length, All, IfOk, OnOk};
 ghost use Rattle.vertex_lang.specs.Leaves.{IsChecked};
+ghost use Rattle.vertex_lang.specs.Lone.{number_of};
 ghost use Rattle.arc_rows.specs.Views.{TellsAll, arcs_in};
 ghost use Rattle.arc_rows.specs.RowLists.{AreAlong};
 ghost use Rattle.round_kernel.specs.Histories.{IsHistory};
 ghost use Rattle.round_kernel.specs.Kernels.{IsKernel};
+ghost use Rattle.round_kernel.specs.Plans.{MayRun};
 
 use crate::tests::plain::Made;
 use change_lists::{Change, History};
 use flow_rows::Timed;
 use graph_model::{EdgeNo, Graph, NodeNo, Val};
 use lattice_time::Position;
-use round_kernel::{Kernel, Stepped, first_step, next_step};
+use round_kernel::{Behind, Kernel, Plan, Stepped};
 use std::alloc::Global;
 use surge_outside::{List, NoMemory};
 use vertex_lang::{Program, Rounds, Updater};
@@ -81,27 +83,22 @@ fn add_view(moves: &mut Moves, position: u32, stepped: &Stepped) -> Result<(), N
 /// Steps the first view, at position 1.
 fn first_view<U: Updater>(
     alloc: Global,
-    program: &Program,
-    graph: &Graph,
+    plan: Plan<'_>,
     kernel: &mut Kernel,
-    rounds: u32,
     bits: u32,
     moves: &mut Moves,
     updater: &mut U,
 ) -> Result<Stood, NoMemory>
-    requires checked { IsChecked program.now graph.now }
-    requires kernel { IsKernel graph.now kernel.old }
-    requires some { 1 ≤ rounds }
-    requires limit { rounds ≤ 1_000_000 }
-    ensures kernel { OnOk result (IsKernel graph.now kernel.new) }
+    requires plan { MayRun plan kernel.old }
+    ensures kernel { OnOk result (IsKernel plan.entry.graph.now kernel.new) }
     ensures rows { kernel.new.rows ≡ kernel.old.rows }
-    ensures flags { IfOk result (λ s. length s.flags.items ≡ length graph.now.ends) }
-    ensures history { IfOk result (λ s. IsHistory U.answer program.now graph.now
-        (Some (arcs_in kernel.old.rows.by_head s.flags.items)) rounds s.history) }
+    ensures flags { IfOk result (λ s. length s.flags.items ≡ length plan.entry.graph.now.ends) }
+    ensures history { IfOk result (λ s. IsHistory U.answer plan.entry.program.now plan.entry.graph.now
+        (Some (arcs_in kernel.old.rows.by_head s.flags.items)) (number_of plan.entry.rounds) s.history) }
 {
-    let flags = flags(alloc, graph, bits)?;
-    let limit = Rounds::Within(rounds);
-    let stepped = first_step(alloc, program, graph, kernel, &flags, limit, updater)?;
+    let flags = flags(alloc, plan.graph, bits)?;
+    let count = u64::from(plan.graph.edge_count());
+    let stepped = kernel.first_step(alloc, plan, &flags, count, updater)?;
     add_view(moves, 1, &stepped)?;
     Ok(Stood {
         history: stepped.history,
@@ -112,72 +109,58 @@ fn first_view<U: Updater>(
 /// Steps a view behind another one by the kernel.
 fn next_by_kernel<U: Updater>(
     alloc: Global,
-    program: &Program,
-    graph: &Graph,
+    plan: Plan<'_>,
     kernel: &mut Kernel,
     old: &Stood,
     new: &[bool],
-    rounds: u32,
     updater: &mut U,
 ) -> Result<Stepped, NoMemory>
-    requires checked { IsChecked program.now graph.now }
-    requires kernel { IsKernel graph.now kernel.old }
-    requires along { AreAlong program.now.along graph.now kernel.old.rows }
-    requires old { length old.now.flags.items ≡ length graph.now.ends }
-    requires new { length new.now ≡ length graph.now.ends }
-    requires some { 1 ≤ rounds }
-    requires limit { rounds ≤ 1_000_000 }
-    requires history { IsHistory U.answer program.now graph.now
-        (Some (arcs_in kernel.old.rows.by_head old.now.flags.items)) rounds old.now.history }
-    ensures kernel { OnOk result (IsKernel graph.now kernel.new) }
+    requires plan { MayRun plan kernel.old }
+    requires along { AreAlong plan.program.now.along plan.graph.now kernel.old.rows }
+    requires old { length old.now.flags.items ≡ length plan.graph.now.ends }
+    requires new { length new.now ≡ length plan.graph.now.ends }
+    requires history { IsHistory U.answer plan.program.now plan.graph.now
+        (Some (arcs_in kernel.old.rows.by_head old.now.flags.items)) (number_of plan.rounds) old.now.history }
+    ensures kernel { OnOk result (IsKernel plan.entry.graph.now kernel.new) }
     ensures rows { kernel.new.rows ≡ kernel.old.rows }
-    ensures history { IfOk result (λ s. IsHistory U.answer program.now graph.now
-        (Some (arcs_in kernel.old.rows.by_head new.now)) rounds s.history) }
+    ensures history { IfOk result (λ s. IsHistory U.answer plan.entry.program.now plan.entry.graph.now
+        (Some (arcs_in kernel.old.rows.by_head new.now)) (number_of plan.entry.rounds) s.history) }
 {
-    let edges = all_edges(alloc, graph)?;
-    next_step(
-        alloc,
-        program,
-        graph,
-        kernel,
-        &old.history,
-        &old.flags,
+    let edges = all_edges(alloc, plan.graph)?;
+    let count = u64::from(plan.graph.edge_count());
+    let behind = Behind {
+        history: &old.history,
+        old: &old.flags,
         new,
-        &edges,
-        Rounds::Within(rounds),
-        updater,
-    )
+        turned: &edges,
+    };
+    kernel.next_step(alloc, plan, behind, count, updater)
 }
 
-/// Steps a view behind another one, at a position.
+/// Steps a view behind another one. Of the view its position is given, and which edges are in it.
 fn later_view<U: Updater>(
     alloc: Global,
-    program: &Program,
-    graph: &Graph,
+    plan: Plan<'_>,
     kernel: &mut Kernel,
     old: &Stood,
-    rounds: u32,
-    bits: u32,
-    position: u32,
+    view: (u32, u32),
     moves: &mut Moves,
     updater: &mut U,
 ) -> Result<Stood, NoMemory>
-    requires checked { IsChecked program.now graph.now }
-    requires kernel { IsKernel graph.now kernel.old }
-    requires along { AreAlong program.now.along graph.now kernel.old.rows }
-    requires some { 1 ≤ rounds }
-    requires limit { rounds ≤ 1_000_000 }
-    requires flags { length old.now.flags.items ≡ length graph.now.ends }
-    requires history { IsHistory U.answer program.now graph.now
-        (Some (arcs_in kernel.old.rows.by_head old.now.flags.items)) rounds old.now.history }
-    ensures kernel { OnOk result (IsKernel graph.now kernel.new) }
+    requires plan { MayRun plan kernel.old }
+    requires along { AreAlong plan.program.now.along plan.graph.now kernel.old.rows }
+    requires flags { length old.now.flags.items ≡ length plan.graph.now.ends }
+    requires history { IsHistory U.answer plan.program.now plan.graph.now
+        (Some (arcs_in kernel.old.rows.by_head old.now.flags.items)) (number_of plan.rounds) old.now.history }
+    ensures kernel { OnOk result (IsKernel plan.entry.graph.now kernel.new) }
     ensures rows { kernel.new.rows ≡ kernel.old.rows }
-    ensures flags { IfOk result (λ s. length s.flags.items ≡ length graph.now.ends) }
-    ensures history { IfOk result (λ s. IsHistory U.answer program.now graph.now
-        (Some (arcs_in kernel.old.rows.by_head s.flags.items)) rounds s.history) }
+    ensures flags { IfOk result (λ s. length s.flags.items ≡ length plan.entry.graph.now.ends) }
+    ensures history { IfOk result (λ s. IsHistory U.answer plan.entry.program.now plan.entry.graph.now
+        (Some (arcs_in kernel.old.rows.by_head s.flags.items)) (number_of plan.entry.rounds) s.history) }
 {
-    let flags = flags(alloc, graph, bits)?;
-    let stepped = next_by_kernel(alloc, program, graph, kernel, old, &flags, rounds, updater)?;
+    let (position, bits) = view;
+    let flags = flags(alloc, plan.graph, bits)?;
+    let stepped = next_by_kernel(alloc, plan, kernel, old, &flags, updater)?;
     add_view(moves, position, &stepped)?;
     Ok(Stood {
         history: stepped.history,
@@ -188,30 +171,23 @@ fn later_view<U: Updater>(
 /// Steps the views behind the first one, at the positions from 2 on.
 fn later_views<U: Updater>(
     alloc: Global,
-    program: &Program,
-    graph: &Graph,
+    plan: Plan<'_>,
     kernel: &mut Kernel,
     first: Stood,
-    rounds: u32,
     views: &[u32],
     moves: &mut Moves,
     updater: &mut U,
 ) -> Result<(), NoMemory>
-    requires checked { IsChecked program.now graph.now }
-    requires kernel { IsKernel graph.now kernel.old }
-    requires along { AreAlong program.now.along graph.now kernel.old.rows }
-    requires some { 1 ≤ rounds }
-    requires limit { rounds ≤ 1_000_000 }
-    requires flags { length first.flags.items ≡ length graph.now.ends }
-    requires history { IsHistory U.answer program.now graph.now
-        (Some (arcs_in kernel.old.rows.by_head first.flags.items)) rounds first.history }
+    requires plan { MayRun plan kernel.old }
+    requires along { AreAlong plan.program.now.along plan.graph.now kernel.old.rows }
+    requires flags { length first.flags.items ≡ length plan.graph.now.ends }
+    requires history { IsHistory U.answer plan.program.now plan.graph.now
+        (Some (arcs_in kernel.old.rows.by_head first.flags.items)) (number_of plan.rounds) first.history }
 {
     let mut old = first;
     let mut place: u32 = 2;
     for bits in views {
-        old = later_view(
-            alloc, program, graph, kernel, &old, rounds, *bits, place, moves, updater,
-        )?;
+        old = later_view(alloc, plan, kernel, &old, (place, *bits), moves, updater)?;
         place = place.wrapping_add(1);
     }
     Ok(())
@@ -220,29 +196,22 @@ fn later_views<U: Updater>(
 /// Steps a view and those behind it by a kernel that is new.
 fn stepped_by<U: Updater>(
     alloc: Global,
-    program: &Program,
-    graph: &Graph,
+    plan: Plan<'_>,
     kernel: &mut Kernel,
-    rounds: u32,
     first: u32,
     later: &[u32],
     updater: &mut U,
 ) -> Result<Moves, NoMemory>
-    requires checked { IsChecked program.now graph.now }
-    requires kernel { IsKernel graph.now kernel.old }
-    requires along { AreAlong program.now.along graph.now kernel.old.rows }
-    requires some { 1 ≤ rounds }
-    requires limit { rounds ≤ 1_000_000 }
+    requires plan { MayRun plan kernel.old }
+    requires along { AreAlong plan.program.now.along plan.graph.now kernel.old.rows }
 {
     let mut moves = Moves {
         changes: List::new(alloc),
         work: 0,
     };
     let all = &mut moves;
-    let stood = first_view(alloc, program, graph, kernel, rounds, first, all, updater)?;
-    later_views(
-        alloc, program, graph, kernel, stood, rounds, later, all, updater,
-    )?;
+    let stood = first_view(alloc, plan, kernel, first, all, updater)?;
+    later_views(alloc, plan, kernel, stood, later, all, updater)?;
     Ok(moves)
 }
 
@@ -265,17 +234,13 @@ pub(crate) fn step_through<U: Updater>(
             work: 0,
         });
     };
-    let mut kernel = Kernel::new(alloc, graph, program.along)?;
-    stepped_by(
-        alloc,
+    let plan = Plan {
         program,
         graph,
-        &mut kernel,
-        rounds,
-        *first,
-        later,
-        updater,
-    )
+        rounds: Rounds::Within(rounds),
+    };
+    let mut kernel = Kernel::new(alloc, graph, program.along)?;
+    stepped_by(alloc, plan, &mut kernel, *first, later, updater)
 }
 
 /// What a dataflow made at a position, up to a round and without the rounds.

@@ -15,8 +15,8 @@ use Rattle.round_kernel.proofs.round.visit_all.Goals as goal
 
 pub loop-node-init : goal.loop-node-init
 loop-node-init g c = record {
-  visiting = visiting-start g.U.Updater.answer c.args.frame c.args.round c.args.lists.now c.args.made.now c.requires.at c.requires.calm c.requires.marks c.requires.changes;
-  keeping = keeping-start g.U.Updater.answer c.args.frame c.args.round c.args.lists.now c.args.kept.now c.requires.kept_size c.requires.calm c.requires.kept;
+  visiting = visiting-start g.U.Updater.answer c.args.stage.now.frame c.args.stage.now.round c.args.lists.now c.args.made.now c.requires.at c.requires.calm c.requires.marks c.requires.changes;
+  keeping = keeping-start g.U.Updater.answer c.args.stage.now.frame c.args.stage.now.round c.args.lists.now c.args.kept.now c.requires.kept_size c.requires.calm c.requires.kept;
   shown = c.requires.shown;
   marked = refl;
   listed = refl;
@@ -32,8 +32,8 @@ visit_one-requires-clause-node g c = omega (arith, c.in-Some.ensures.within, c.l
 pub visit_one-requires-clause-at : goal.visit_one-requires-clause-at
 visit_one-requires-clause-at g c =
     let answer = g.U.Updater.answer in
-    let f = c.args.frame in
-    let r = c.args.round in
+    let f = c.args.stage.now.frame in
+    let r = c.args.stage.now.round in
     let lists0 = c.loop-node.lists in
     let q1 = c.next.new.self in
     let low : c.in-Some.node.0 < count_in f = omega (arith, c.in-Some.ensures.within, c.loop-node.invariant.visiting.at.queue.size) in
@@ -46,20 +46,20 @@ visit_one-requires-clause-sums_size g c = c.loop-node.invariant.keeping.size
 
 pub visit_one-requires-clause-sums : goal.visit_one-requires-clause-sums
 visit_one-requires-clause-sums g c = λ later touched.
-    let low : c.in-Some.node.0 < count_in c.args.frame = omega (arith, c.in-Some.ensures.within, c.loop-node.invariant.visiting.at.queue.size) in
+    let low : c.in-Some.node.0 < count_in c.args.stage.now.frame = omega (arith, c.in-Some.ensures.within, c.loop-node.invariant.visiting.at.queue.size) in
     c.loop-node.invariant.keeping.before c.in-Some.node.0 low c.in-Some.ensures.was later touched
 
 pub overflow_add-work : goal.overflow_add-work
 overflow_add-work g c =
-    let f = c.args.frame in
-    let test = done (waits c.loop-node.lists.queue) (counted_at g.U.Updater.answer f c.args.round) in
-    omega (arith, c.loop-node.invariant.visiting.counted, count_by-le-length test (range_with_len 0 (count_in f)), length-range_with_len 0 (count_in f), c.requires.frame.few, one-most _ _ c.in_ok-work.ensures.count)
+    let f = c.args.stage.now.frame in
+    let test = done (waits c.loop-node.lists.queue) (counted_at g.U.Updater.answer f c.args.stage.now.round) in
+    omega (arith, c.loop-node.invariant.visiting.counted, count_by-le-length test (range_with_len 0 (count_in f)), length-range_with_len 0 (count_in f), c.requires.stage.frame.few, one-most _ _ c.in_ok-work.ensures.count)
 
 pub loop-node-preserved : goal.loop-node-preserved
 loop-node-preserved g c =
     let answer = g.U.Updater.answer in
-    let f = c.args.frame in
-    let r = c.args.round in
+    let f = c.args.stage.now.frame in
+    let r = c.args.stage.now.round in
     let lists0 = c.loop-node.lists in
     let q1 = c.next.new.self in
     let lists2 = c.visit_one.new.lists in

@@ -1,16 +1,33 @@
-use Rattle.std.proofs.Common.{refl}
+use Rattle.std.proofs.Common.{◌∙◌, false, refl, sym, arith, rules}
+use Rattle.std.proofs.lemmas.Bool.{true≢false}
+use Rattle.std.proofs.lemmas.List.{get_or_read}
 use Rattle.round_kernel.proofs.Standing.{round-at}
 use Rattle.round_messages.specs.SendingLaws.{sent-at}
 use Rattle.round_kernel.proofs.round.visit_one.Goals as goal
 
-pub visit-requires-clause-new_sent : goal.visit-requires-clause-new_sent
-visit-requires-clause-new_sent g c = sent-at c.args.lists.now.alike c.args.frame.program.now c.args.frame.graph.now _ _ _ _ _ _ c.deref-3.ensures.value c.deref-4.ensures.value refl c.requires.at.new_sent
-
-pub visit-requires-clause-new : goal.visit-requires-clause-new
-visit-requires-clause-new g c = round-at g.U.Updater.answer c.args.frame.program.now c.args.frame.graph.now c.args.frame.rows.now.by_head c.args.frame.new.now _ _ _ _ c.args.round c.deref-3.ensures.value c.deref-4.ensures.value c.requires.at.new_now
-
-pub visit-requires-clause-before : goal.visit-requires-clause-before
-visit-requires-clause-before g c = round-at g.U.Updater.answer c.args.frame.program.now c.args.frame.graph.now c.args.frame.rows.now.by_head c.args.frame.new.now _ _ _ _ _ c.deref-3.ensures.value c.deref-5.ensures.value c.requires.at.new_before
-
-pub visit-requires-clause-old : goal.visit-requires-clause-old
-visit-requires-clause-old g c = λ one. round-at g.U.Updater.answer c.args.frame.program.now c.args.frame.graph.now c.args.frame.rows.now.by_head c.args.frame.old.now _ _ _ _ c.args.round c.deref.ensures.value c.deref-2.ensures.value (c.requires.at.old_now one)
+pub visit-requires-clause-spot : goal.visit-requires-clause-spot
+visit-requires-clause-spot g c =
+    let answer = g.U.Updater.answer in
+    let f = c.args.stage.now.frame in
+    let p = f.program.now in
+    let graph = f.graph.now in
+    let all = f.rows.now.by_head in
+    let r = c.args.stage.now.round in
+    let at = c.requires.at in
+    record {
+      round = record {
+        checked = c.requires.stage.frame.checked;
+        rows = c.requires.stage.frame.rows;
+        stands = round-at answer p graph all f.new.now _ _ _ _ r c.deref.ensures.value c.deref-2.ensures.value at.new_now;
+        sent = sent-at c.args.lists.now.alike p graph _ _ _ _ _ _ c.deref.ensures.value c.deref-2.ensures.value refl at.new_sent;
+      };
+      node = c.requires.node;
+      start = search rules;
+      starts = search rules;
+      before = round-at answer p graph all f.new.now _ _ _ _ _ c.deref.ensures.value c.deref-5.ensures.value at.new_before;
+      old = λ one. round-at answer p graph all f.old.now _ _ _ _ r c.deref-3.ensures.value c.deref-4.ensures.value (at.old_now one);
+      old_sent = λ e. absurd (true≢false (sym e));
+      marked = λ later. get_or_read c.args.lists.now.marked.items c.args.node.0 c.index.result.now (omega (arith, c.requires.node, at.marked_size)) c.index.ensures false ∙ at.marked later;
+      was = get_or_read c.args.lists.now.touched.items c.args.node.0 c.index-was.result.now (omega (arith, c.requires.node, at.touched_size)) c.index-was.ensures false ∙ at.touched;
+      lookups = c.requires.stage.lookups;
+    }

@@ -1,11 +1,12 @@
-use Rattle.std.proofs.Common.{arith}
+use Rattle.std.proofs.Common.{◌≡◌, ◌∙◌, ◌+◌, ◌-◌, ℕ, List, refl, subst, sym, arith}
 use Rattle.std.specs.List.{range_with_len}
 use Rattle.std.proofs.lemmas.List.FromFn.{length-range_with_len}
 use Rattle.std.proofs.lemmas.List.Sums.{count_by-le-length}
+use Rattle.change_lists.specs.declared.history.Change.{Change}
 use Rattle.lone_work.specs.CountLaws.{work-by-rounds}
-use Rattle.round_kernel.specs.Frames.{count_in, counted_at, new_arcs, old_arcs}
+use Rattle.round_kernel.specs.Frames.{AreStirred, count_in, counted_at, new_arcs, old_arcs}
 use Rattle.round_kernel.proofs.Growing.{rounds-more, changes-last}
-use Rattle.round_kernel.proofs.KeptRounds.{kept-on}
+use Rattle.round_kernel.proofs.KeptRounds.{kept-next, kept-on}
 use Rattle.round_kernel.proofs.step.run_one.Goals as goal
 
 pub go_on-requires-clause-before : goal.go_on-requires-clause-before
@@ -13,11 +14,26 @@ go_on-requires-clause-before g c = λ later. changes-last g.U.Updater.answer c.a
 
 pub returns-clause-history : goal.returns-clause-history
 returns-clause-history g c =
-    rounds-more g.U.Updater.answer c.args.frame c.args.history.now c.add_round.new.history c.in_node_order.new.changes c.run_round.new.made.marks c.args.round c.requires.history
-    c.in_ok-add_round.ensures.changes c.in_ok-add_round.ensures.first c.in_ok-add_round.ensures.later c.in_ok-in_node_order.ensures c.in_ok-work.ensures.marks
+    rounds-more g.U.Updater.answer c.args.frame c.args.history.now c.add_round.new.history c.in_node_order.new.changes c.run_round.new.state.made.marks c.args.round c.requires.history
+    c.in_ok-add_round.ensures.changes c.in_ok-add_round.ensures.first c.in_ok-add_round.ensures.later c.in_ok-in_node_order.ensures c.in_ok-work.ensures.behind.made.marks
 
-pub returns-clause-kept : goal.returns-clause-kept
-returns-clause-kept g c = kept-on g.U.Updater.answer c.args.frame c.args.round c.run_round.new.kept c.in_ok-work.ensures.kept
+pub returns-clause-state : goal.returns-clause-state
+returns-clause-state g c =
+    let answer = g.U.Updater.answer in
+    let f = c.args.frame in
+    let r = c.args.round in
+    let behind = c.in_ok-work.ensures.behind in
+    let kept = c.run_round.new.state.kept.items in
+    let back : r ≡ r + 1 - 1 = omega arith in
+    record {
+      at = c.go_on.ensures.at;
+      idle = c.go_on.ensures.idle;
+      kept_size = behind.kept_size;
+      kept = λ later. kept-next answer f r kept kept refl (kept-on answer f r kept behind.kept);
+      lookups = c.go_on-2.ensures.lookups;
+      stirred = λ later few. subst (λ (k : ℕ). AreStirred answer f k c.add_round.new.made.stirred) back
+          (subst (λ (cs : List Change). AreStirred answer f r cs) (sym c.add_round.ensures.stirred) (behind.made.stirred (sym c.add_round.ensures.few ∙ few)));
+    }
 
 pub returns-clause-work : goal.returns-clause-work
 returns-clause-work g c =

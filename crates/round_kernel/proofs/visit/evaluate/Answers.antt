@@ -10,33 +10,33 @@ use Rattle.round_kernel.proofs.visit.evaluate.Goals as goal
 
 pub gathered-gathered-requires : goal.gathered-gathered-requires
 gathered-gathered-requires g c =
-    let side = c.args.side.now in
+    let side = c.args.spot.now.new.side in
     omega (
       arith,
       ap (λ (t : Tally). t.count) c.requires.tally,
-      got-few g.U.Updater.answer c.args.program.now c.args.graph.now c.args._rows.now.by_head side.edges.now side.degrees.now side.values.now c.args.spot.round c.requires.new c.args.spot.node.0 c.requires.rows.arcs,
-      c.requires.rows.few,
+      got-few g.U.Updater.answer c.args.spot.now.new.program.now c.args.spot.now.new.graph.now c.args.spot.now.new.rows.now.by_head side.edges.now side.degrees.now side.values.now c.args.spot.now.new.number c.requires.spot.round.stands c.args.spot.now.node.0 c.requires.spot.round.rows.arcs,
+      c.requires.spot.round.rows.few,
     )
 
 pub returns-clause-value : goal.returns-clause-value
 returns-clause-value g c =
-    let p = c.args.program.now in
-    let graph = c.args.graph.now in
-    let arcs = arcs_in c.args._rows.now.by_head c.args.side.now.edges.now in
-    let v = c.args.spot.node.0 in
-    let r = c.args.spot.round in
+    let p = c.args.spot.now.new.program.now in
+    let graph = c.args.spot.now.new.graph.now in
+    let arcs = arcs_in c.args.spot.now.new.rows.now.by_head c.args.spot.now.new.side.edges.now in
+    let v = c.args.spot.now.node.0 in
+    let r = c.args.spot.now.new.number in
     let ms = got_values g.U.Updater.answer p graph arcs v r in
-    next-told g.U.Updater.answer p graph arcs v r c.args.side.now.values.now ms _ _ _ _ _ _ c.requires.node c.requires.new.values_are
+    next-told g.U.Updater.answer p graph arcs v r c.args.spot.now.new.side.values.now ms _ _ _ _ _ _ c.requires.spot.node c.requires.spot.round.stands.values_are
     refl c.id-id.ensures.value c.start_at-start.ensures refl
     (c.gathered-gathered.ensures ∙ ap (λ (t : Tally). gathered_in p.gather t) c.requires.tally ∙ tallied p.gather ms)
     (ap (λ (t : Tally). t.count) c.requires.tally) c.update.ensures.answer
 
 pub update-requires-clause-count : goal.update-requires-clause-count
 update-requires-clause-count g c =
-    let side = c.args.side.now in
+    let side = c.args.spot.now.new.side in
     omega (
       arith,
       ap (λ (t : Tally). t.count) c.requires.tally,
-      got-few g.U.Updater.answer c.args.program.now c.args.graph.now c.args._rows.now.by_head side.edges.now side.degrees.now side.values.now c.args.spot.round c.requires.new c.args.spot.node.0 c.requires.rows.arcs,
-      c.requires.rows.few,
+      got-few g.U.Updater.answer c.args.spot.now.new.program.now c.args.spot.now.new.graph.now c.args.spot.now.new.rows.now.by_head side.edges.now side.degrees.now side.values.now c.args.spot.now.new.number c.requires.spot.round.stands c.args.spot.now.node.0 c.requires.spot.round.rows.arcs,
+      c.requires.spot.round.rows.few,
     )

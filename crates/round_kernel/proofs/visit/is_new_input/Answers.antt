@@ -6,11 +6,11 @@ use Rattle.round_kernel.proofs.Kept.{marked-new}
 use Rattle.round_kernel.proofs.visit.is_new_input.Goals as goal
 
 pub returns-then-spot-eq0-clause-marked : goal.returns-then-spot-eq0-clause-marked
-returns-then-spot-eq0-clause-marked g c = λ t. sym (marked-first g.U.Updater.answer c.args.program.now c.args.graph.now (arcs_in c.args.rows.now.by_head c.args.sides.now.new.edges.now) c.args.spot.node.0 c.args.spot.round c.if-spot-eq0.true)
+returns-then-spot-eq0-clause-marked g c = λ t. sym (marked-first g.U.Updater.answer c.args.spot.now.new.program.now c.args.spot.now.new.graph.now (arcs_in c.args.spot.now.new.rows.now.by_head c.args.spot.now.new.side.edges.now) c.args.spot.now.node.0 c.args.spot.now.new.number c.if-spot-eq0.true)
 
-pub returns-then-not-was-clause-marked : goal.returns-then-not-was-clause-marked
-returns-then-not-was-clause-marked g c = λ t.
-    let r = c.args.spot.round in
+pub returns-then-not-spot-clause-marked : goal.returns-then-not-spot-clause-marked
+returns-then-not-spot-clause-marked g c = λ t.
+    let r = c.args.spot.now.new.number in
     let later : 0 < r = omega arith in
-    sym (marked-new g.U.Updater.answer c.args.program.now c.args.graph.now c.args.rows.now.by_head c.args.sides.now.old.edges.now c.args.sides.now.new.edges.now c.args.spot.node.0 r
-    c.args.spot.first c.args.was c.args.spot.marked c.requires.was c.requires.touched (c.requires.marked later) c.if-not-was.true (not-true c.args.spot.marked t))
+    sym (marked-new g.U.Updater.answer c.args.spot.now.new.program.now c.args.spot.now.new.graph.now c.args.spot.now.new.rows.now.by_head c.args.spot.now.old.edges.now c.args.spot.now.new.side.edges.now c.args.spot.now.node.0 r
+    c.args.spot.now.first c.args.spot.now.was c.args.spot.now.marked c.requires.spot.was c.requires.touched (c.requires.spot.marked later) c.if-not-spot.true (not-true c.args.spot.now.marked t))

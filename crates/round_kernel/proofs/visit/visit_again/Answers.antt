@@ -24,22 +24,22 @@ returns-clause-kept g c = c.kept-now.ensures ∙ ap (λ (t : Tally). kept_of t) 
 
 pub returns-then-not-either-clause-count : goal.returns-then-not-either-clause-count
 returns-then-not-either-clause-count g c =
-    let new = arcs_in c.args.rows.now.by_head c.args.sides.now.new.edges.now in
-    let old = old_view c.args.spot.first c.args.rows.now.by_head c.args.sides.now.old.edges.now in
-    let counted = counted-where g.U.Updater.answer c.args.program.now c.args.graph.now new old c.args.spot.node.0 c.args.spot.round c.in_ok-marked.marked c.args.spot.marked c.requires.touched c.in_ok-marked.ensures c.requires.marked (λ e. c.in_ok-marked.ensures ∙ sym (marked-first g.U.Updater.answer c.args.program.now c.args.graph.now new c.args.spot.node.0 c.args.spot.round e)) in
+    let new = arcs_in c.args.spot.now.new.rows.now.by_head c.args.spot.now.new.side.edges.now in
+    let old = old_view c.args.spot.now.first c.args.spot.now.new.rows.now.by_head c.args.spot.now.old.edges.now in
+    let counted = counted-where g.U.Updater.answer c.args.spot.now.new.program.now c.args.spot.now.new.graph.now new old c.args.spot.now.node.0 c.args.spot.now.new.number c.in_ok-marked.marked c.args.spot.now.marked c.requires.touched c.in_ok-marked.ensures c.requires.spot.marked (λ e. c.in_ok-marked.ensures ∙ sym (marked-first g.U.Updater.answer c.args.spot.now.new.program.now c.args.spot.now.new.graph.now new c.args.spot.now.node.0 c.args.spot.now.new.number e)) in
     sym (ap {B = ℕ} (λ (b : Bool). if b then 1 else 0) (counted ∙ sym c.either.ensures ∙ c.if-not-either.true))
 
 pub returns-then-not-either-clause-changes : goal.returns-then-not-either-clause-changes
 returns-then-not-either-clause-changes g c =
-    let new = arcs_in c.args.rows.now.by_head c.args.sides.now.new.edges.now in
-    let old = old_view c.args.spot.first c.args.rows.now.by_head c.args.sides.now.old.edges.now in
-    let counted = counted-where g.U.Updater.answer c.args.program.now c.args.graph.now new old c.args.spot.node.0 c.args.spot.round c.in_ok-marked.marked c.args.spot.marked c.requires.touched c.in_ok-marked.ensures c.requires.marked (λ e. c.in_ok-marked.ensures ∙ sym (marked-first g.U.Updater.answer c.args.program.now c.args.graph.now new c.args.spot.node.0 c.args.spot.round e)) in
-    let value = value_at (lone g.U.Updater.answer c.args.program.now c.args.graph.now new (c.args.spot.round + 1)) c.args.spot.node.0 in
-    sym (ap (λ (b : Bool). c.args.made.now.changes ++ change_if b c.args.spot.node value) (stays-unchanged g.U.Updater.answer c.args.program.now c.args.graph.now new old c.args.spot.node.0 c.args.spot.round c.requires.node c.requires.touched (counted ∙ sym c.either.ensures ∙ c.if-not-either.true)) ∙ append-nil c.args.made.now.changes)
+    let new = arcs_in c.args.spot.now.new.rows.now.by_head c.args.spot.now.new.side.edges.now in
+    let old = old_view c.args.spot.now.first c.args.spot.now.new.rows.now.by_head c.args.spot.now.old.edges.now in
+    let counted = counted-where g.U.Updater.answer c.args.spot.now.new.program.now c.args.spot.now.new.graph.now new old c.args.spot.now.node.0 c.args.spot.now.new.number c.in_ok-marked.marked c.args.spot.now.marked c.requires.touched c.in_ok-marked.ensures c.requires.spot.marked (λ e. c.in_ok-marked.ensures ∙ sym (marked-first g.U.Updater.answer c.args.spot.now.new.program.now c.args.spot.now.new.graph.now new c.args.spot.now.node.0 c.args.spot.now.new.number e)) in
+    let value = value_at (lone g.U.Updater.answer c.args.spot.now.new.program.now c.args.spot.now.new.graph.now new (c.args.spot.now.new.number + 1)) c.args.spot.now.node.0 in
+    sym (ap (λ (b : Bool). c.args.made.now.changes ++ change_if b c.args.spot.now.node value) (stays-unchanged g.U.Updater.answer c.args.spot.now.new.program.now c.args.spot.now.new.graph.now new old c.args.spot.now.node.0 c.args.spot.now.new.number c.requires.spot.node c.requires.touched (counted ∙ sym c.either.ensures ∙ c.if-not-either.true)) ∙ append-nil c.args.made.now.changes)
 
 pub returns-clause-count : goal.returns-clause-count
 returns-clause-count g c =
-    let new = arcs_in c.args.rows.now.by_head c.args.sides.now.new.edges.now in
-    let old = old_view c.args.spot.first c.args.rows.now.by_head c.args.sides.now.old.edges.now in
-    let counted = counted-where g.U.Updater.answer c.args.program.now c.args.graph.now new old c.args.spot.node.0 c.args.spot.round c.in_ok-marked.marked c.args.spot.marked c.requires.touched c.in_ok-marked.ensures c.requires.marked (λ e. c.in_ok-marked.ensures ∙ sym (marked-first g.U.Updater.answer c.args.program.now c.args.graph.now new c.args.spot.node.0 c.args.spot.round e)) in
+    let new = arcs_in c.args.spot.now.new.rows.now.by_head c.args.spot.now.new.side.edges.now in
+    let old = old_view c.args.spot.now.first c.args.spot.now.new.rows.now.by_head c.args.spot.now.old.edges.now in
+    let counted = counted-where g.U.Updater.answer c.args.spot.now.new.program.now c.args.spot.now.new.graph.now new old c.args.spot.now.node.0 c.args.spot.now.new.number c.in_ok-marked.marked c.args.spot.now.marked c.requires.touched c.in_ok-marked.ensures c.requires.spot.marked (λ e. c.in_ok-marked.ensures ∙ sym (marked-first g.U.Updater.answer c.args.spot.now.new.program.now c.args.spot.now.new.graph.now new c.args.spot.now.node.0 c.args.spot.now.new.number e)) in
     sym (ap {B = ℕ} (λ (b : Bool). if b then 1 else 0) (counted ∙ sym c.either.ensures ∙ c.if-not-either.false))

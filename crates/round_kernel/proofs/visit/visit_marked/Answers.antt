@@ -15,6 +15,6 @@ returns-clause-kept g c = c.kept.ensures ∙ ap (λ (t : Tally). kept_of t) c.ta
 
 pub returns-clause-count : goal.returns-clause-count
 returns-clause-count g c =
-    let new = arcs_in c.args.rows.now.by_head c.args.sides.now.new.edges.now in
-    let old = old_view c.args.spot.first c.args.rows.now.by_head c.args.sides.now.old.edges.now in
-    sym (ap {B = ℕ} (λ (b : Bool). if b then 1 else 0) (counted-marked g.U.Updater.answer c.args.program.now c.args.graph.now new old c.args.spot.node.0 c.args.spot.round c.requires.touched c.requires.marked))
+    let new = arcs_in c.args.spot.now.new.rows.now.by_head c.args.spot.now.new.side.edges.now in
+    let old = old_view c.args.spot.now.first c.args.spot.now.new.rows.now.by_head c.args.spot.now.old.edges.now in
+    sym (ap {B = ℕ} (λ (b : Bool). if b then 1 else 0) (counted-marked g.U.Updater.answer c.args.spot.now.new.program.now c.args.spot.now.new.graph.now new old c.args.spot.now.node.0 c.args.spot.now.new.number c.requires.touched c.requires.marked))

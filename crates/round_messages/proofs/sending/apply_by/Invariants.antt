@@ -11,5 +11,5 @@ invariant-loop-change l = record {
   changed : (after : List Val) → All (λ c. c.value ≡ value_at after c.node.0) l.changes → AreChanged l.initial.now after l.now (take l.change-index l.changes);
   size : length l.now ≡ length l.initial.now;
   only : l.kept ≡ true → l.alike ≡ true;
-  sent : AreSent l.kept l.program l.graph l.degrees l.now l.sent;
+  sent : AreSent l.kept l.sender.program.now l.sender.graph.now l.sender.degrees.now l.now l.sent;
 }

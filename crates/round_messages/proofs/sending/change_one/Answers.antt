@@ -6,7 +6,7 @@ pub send_by-message-requires-clause-tail : goal.send_by-message-requires-clause-
 send_by-message-requires-clause-tail c = omega (arith, c.requires.node, c.requires.size)
 
 pub send_by-message-requires-clause-outdeg : goal.send_by-message-requires-clause-outdeg
-send_by-message-requires-clause-outdeg c = c.requires.small c.args.change.node.0 (omega (arith, c.requires.node, c.requires.size))
+send_by-message-requires-clause-outdeg c = c.requires.sender.small c.args.change.node.0 (omega (arith, c.requires.node, c.requires.size))
 
 pub send_by-message-requires-clause-edge : goal.send_by-message-requires-clause-edge
 send_by-message-requires-clause-edge c = (c.requires.keeps c.if-not-alike.false).1
@@ -16,10 +16,10 @@ put-requires c = omega (arith, c.requires.node, c.requires.size, (c.requires.sen
 
 pub returns-clause-sent : goal.returns-clause-sent
 returns-clause-sent c =
-    let p = c.args.program.now in
-    let graph = c.args.graph.now in
+    let p = c.args.sender.now.program.now in
+    let graph = c.args.sender.now.graph.now in
     let n = c.args.change.node.0 in
-    one-sent p graph c.args.degrees.now c.args.now.now c.args.alike c.put.result c.args.sent.now c.put.new.sent n 0 c.args.change.value c.send_by-message.result c.requires.size (omega (arith, c.requires.node, c.requires.size)) c.requires.keeps c.if-not-alike.false c.send_by-message.ensures.message c.put.ensures c.requires.sent
+    one-sent p graph c.args.sender.now.degrees.now c.args.now.now c.args.alike c.put.result c.args.sent.now c.put.new.sent n 0 c.args.change.value c.send_by-message.result c.requires.size (omega (arith, c.requires.node, c.requires.size)) c.requires.keeps c.if-not-alike.false c.send_by-message.ensures.message c.put.ensures c.requires.sent
 
 pub returns-clause-only : goal.returns-clause-only
 returns-clause-only c = λ e. c.if-not-alike.false

@@ -5,7 +5,7 @@ use Rattle.round_messages.specs.SendingLaws.{more-sent}
 use Rattle.round_messages.proofs.sending.send_long.Goals as goal
 
 pub send_by-message-requires-clause-outdeg : goal.send_by-message-requires-clause-outdeg
-send_by-message-requires-clause-outdeg c = c.requires.small c.loop-node.node (omega (arith, c.loop-node-test.true, c.node_count-count.ensures.count))
+send_by-message-requires-clause-outdeg c = c.requires.sender.small c.loop-node.node (omega (arith, c.loop-node-test.true, c.node_count-count.ensures.count))
 
 pub send_by-message-requires-clause-edge : goal.send_by-message-requires-clause-edge
 send_by-message-requires-clause-edge c = (c.requires.keeps refl).1
@@ -19,7 +19,7 @@ loop-node-preserved c =
     let more : c.push.new.self.items ≡ sent ++ z ∷ [] = c.in_ok-push-in-Some.ensures.items ∙ ap (λ (x : ℤ). sent ++ x ∷ []) (to_z-of_z w64 z fits) in
     record {
       size = ap (λ (zs : List ℤ). length zs) more ∙ length_push sent z ∙ ap (λ k. k + 1) c.loop-node.invariant.size;
-      kept = more-sent c.args.program.now c.args.graph.now c.args.degrees.now c.args.values.now sent c.push.new.self.items n 0 z c.send_by-message.result (c.requires.keeps refl).0 c.loop-node.invariant.size more c.in-Some.ensures c.send_by-message.ensures.message c.loop-node.invariant.kept;
+      kept = more-sent c.args.sender.now.program.now c.args.sender.now.graph.now c.args.sender.now.degrees.now c.args.values.now sent c.push.new.self.items n 0 z c.send_by-message.result (c.requires.keeps refl).0 c.loop-node.invariant.size more c.in-Some.ensures c.send_by-message.ensures.message c.loop-node.invariant.kept;
     }
 
 pub returns : goal.returns

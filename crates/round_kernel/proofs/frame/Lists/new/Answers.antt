@@ -17,11 +17,12 @@ use Rattle.round_kernel.proofs.frame.Lists.new.Goals as goal
 pub send_all-requires-clause-size : goal.send_all-requires-clause-size
 send_all-requires-clause-size g c = ap (λ (vs : List Val). length vs) (c.as_slice-values.ensures ∙ c.deref.ensures ∙ c.in_ok-starts.ensures) ∙ length-map-range_with_len (start_of c.args.frame.program.now c.args.frame.graph.now) 0 (count_in c.args.frame)
 
-pub send_all-requires-clause-degrees_size : goal.send_all-requires-clause-degrees_size
-send_all-requires-clause-degrees_size g c = ap (λ (ds : List ℕ). length ds) c.deref-2.ensures.value ∙ c.requires.degrees.after.size
-
-pub send_all-requires-clause-small : goal.send_all-requires-clause-small
-send_all-requires-clause-small g c = λ u low. subst (λ (ds : List ℕ). get_or ds u 0 < 2 ^ 32) (sym c.deref-2.ensures.value) (c.requires.degrees.after.small u low)
+pub send_all-requires-clause-sender : goal.send_all-requires-clause-sender
+send_all-requires-clause-sender g c = record {
+  checked = c.requires.frame.checked;
+  degrees_size = ap (λ (ds : List ℕ). length ds) c.deref-2.ensures.value ∙ c.requires.degrees.after.size;
+  small = λ u low. subst (λ (ds : List ℕ). get_or ds u 0 < 2 ^ 32) (sym c.deref-2.ensures.value) (c.requires.degrees.after.small u low);
+}
 
 pub returns-clause-at : goal.returns-clause-at
 returns-clause-at g c =

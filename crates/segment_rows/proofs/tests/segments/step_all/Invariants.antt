@@ -9,10 +9,10 @@ use Rattle.segment_rows.proofs.tests.segments.step_all.Given as goal
 
 abbrev pub invariant-loop-alloc : goal.invariant-loop-alloc
 invariant-loop-alloc g l = record {
-  kernel : IsKernel l.graph l.kernel;
-  along : AreOfAll l.program.along l.graph l.kernel.rows;
+  kernel : IsKernel l.plan.graph.now l.kernel;
+  along : AreOfAll l.plan.program.now.along l.plan.graph.now l.kernel.rows;
   views : All (IsView l.matrix) l.segment.views;
-  stands : SegmentStands (task_over g.U.Updater.answer l.program l.graph l.rounds l.matrix) l.segment;
+  stands : SegmentStands (task_over g.U.Updater.answer l.plan.program.now l.plan.graph.now l.plan.rounds l.matrix) l.segment;
 }
 
 abbrev pub decreases-loop-alloc : goal.decreases-loop-alloc

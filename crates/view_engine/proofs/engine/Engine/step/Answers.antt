@@ -14,6 +14,14 @@ use Rattle.view_engine.proofs.Putting.{all_at}
 use Rattle.view_engine.proofs.Refusing.{on_err, leads_back, still_before, taken_before, no_kernel, set_same, set_back}
 use Rattle.view_engine.proofs.engine.Engine.step.Goals as goal
 
+pub step-requires-clause-plan : goal.step-requires-clause-plan
+step-requires-clause-plan g c = record {
+  checked = c.requires.engine.checked;
+  kernel = c.in_ok-kernel.ensures.ready.0;
+  some = c.requires.engine.some;
+  limit = c.requires.engine.limit;
+}
+
 pub step-requires-clause-views : goal.step-requires-clause-views
 step-requires-clause-views g c =
     let e = c.args.self.now in

@@ -14,7 +14,7 @@ step_later-requires-clause-kept g c =
     let task = task_in g.U.Updater.answer s in
     let last = (some-before task c.args.self.now c.in-Some.history c.as_slice.result.now c.len.result c.requires.stands c.in-Some.is c.as_slice.ensures c.len.ensures).0 in
     let u = (get_or c.as_slice.result.now (c.len.result - 1) nothing).0 in
-    kept-before task c.args.self.now u c.args.self.now.flags (flags_of s.matrix.now u) c.requires.stands last refl (flags-tell s.matrix.now u (length s.graph.now.ends) c.requires.setting.matrix)
+    kept-before task c.args.self.now u c.args.self.now.flags (flags_of s.matrix.now u) c.requires.stands last refl (flags-tell s.matrix.now u (length s.plan.graph.now.ends) c.requires.setting.matrix)
 
 pub returns-in_ok-stepped-in-Some-clause-before : goal.returns-in_ok-stepped-in-Some-clause-before
 returns-in_ok-stepped-in-Some-clause-before g c =
