@@ -1,6 +1,6 @@
 pub mod Views
 pub mod RowLists
-pub mod Places
+mod Places
 pub mod Lives
 pub mod Links
 pub mod Listings

@@ -1,4 +1,4 @@
-pub mod Chained
+mod Chained
 pub mod ChangeLists
 pub mod ChangeLaws
 pub mod ValueLaws

@@ -1,13 +1,13 @@
 pub mod Spares
 pub mod Kernels
-pub mod Frames
-pub mod Sources
-pub mod Suspects
+mod Frames
+mod Sources
+mod Suspects
 pub mod Histories
-pub mod Rounds
-pub mod Flags
-pub mod Steps
-pub mod Lookups
-pub mod Spots
-pub mod Changes
+mod Rounds
+mod Flags
+mod Steps
+mod Lookups
+mod Spots
+mod Changes
 pub mod Plans

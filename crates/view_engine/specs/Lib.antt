@@ -1,3 +1,3 @@
 pub mod Splits
 pub mod Engines
-pub mod Assigning
+mod Assigning
