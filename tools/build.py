@@ -84,8 +84,7 @@ def at_work(session):
     rooms = set()
     for it in processes_of(session):
         with contextlib.suppress(OSError), open(f"/proc/{it}/cmdline", encoding="utf-8", errors="replace") as words:
-            found = re.search(r"\0--crate-name\0(\w+)\0", words.read())
-            rooms.update(found[1:2] if found else ())
+            rooms.update(re.findall(r"\0--crate-name\0(\w+)\0", words.read()))
     return sorted(rooms)
 
 
