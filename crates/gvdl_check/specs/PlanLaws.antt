@@ -3,12 +3,14 @@ use Rattle.std.proofs.Common.{◌≡◌, ℕ, ◌+◌, List, [], ◌∷◌, leng
 use Rattle.graph_model.specs.GraphData.{GraphData}
 use Rattle.gvdl_tree.specs.declared.script.Script.{Script}
 use Rattle.gvdl_tree.specs.declared.script.Statement.{Statement}
+use Rattle.gvdl_programs.specs.declared.refusal.Refusal.TheVariants as refusal
 use Rattle.gvdl_programs.specs.Judging.{Judged, expect}
 use Rattle.gvdl_programs.specs.JudgingLaws.{through, same_value}
 use Rattle.gvdl_check.specs.declared.plan.Plan.{Plan}
 use Rattle.gvdl_check.specs.declared.known.Known.{Known}
 use Rattle.gvdl_check.specs.Faults.{at}
-use Rattle.gvdl_check.specs.Plans.{load, statement_added, statement_added, plan_of, plan_from}
+use Rattle.gvdl_check.specs.Built.{is_built}
+use Rattle.gvdl_check.specs.Plans.{load, statement_added, statement_judged, plan_of, plan_from}
 use Rattle.gvdl_check.specs.Plans.{plan}
 use Rattle.gvdl_check.specs.Fits.{KnownFits, PlanFits}
 use Rattle.gvdl_check.specs.StepLaws.{each_fits, some_views, all_views}
@@ -18,10 +20,13 @@ pub judged_at : {A : Type 0} (n : ℕ) (said : Judged A) (a : A) → at n said �
 judged_at n (Ok b) a e = ap Ok (same_value b a e)
 judged_at n (Err r) a e = absurd cc
 
--- a statement that is judged to have a value
+-- a statement that is judged to have a value has it, and is built
+pub added_so : (g : GraphData) (k next : Known) (s : Statement) → statement_judged g k s ≡ Ok next → statement_added g k s ≡ Ok next
+added_so g k next s e = (through (expect (is_built s) refusal.NotBuilt) (λ _. statement_added g k s) next e).rest
+
 pub judged_grows : (g : GraphData) (k : Known) → KnownFits g k → (next : Known) (s : Statement)
-    → statement_added g k s ≡ Ok next → Grows g k next
-judged_grows g k fit next s e = statement_grows g k fit next s e
+    → statement_judged g k s ≡ Ok next → Grows g k next
+judged_grows g k fit next s e = statement_grows g k fit next s (added_so g k next s e)
 
 -- a plan that fits, with so many steps
 pub record Sound (g : GraphData) (count : ℕ) (p : Plan) : Type 0 where
@@ -46,15 +51,15 @@ from_sound g n k p [] fit e =
     let none : length k.steps ≡ length k.steps + 0 = omega arith in
     subst (λ (m : ℕ). Sound g m p) none (subst (Sound g (length k.steps)) (same_value (plan_of k) p e) (known_sound g k fit))
 from_sound g n k p (s ∷ more) fit e =
-    let t = through (at n (statement_added g k s)) (λ next. plan_from g (n + 1) next more) p e in
-    let grown = judged_grows g k fit t.value s (judged_at n (statement_added g k s) t.value t.first) in
+    let t = through (at n (statement_judged g k s)) (λ next. plan_from g (n + 1) next more) p e in
+    let grown = judged_grows g k fit t.value s (judged_at n (statement_judged g k s) t.value t.first) in
     let counted : length t.value.steps + length more ≡ length k.steps + length (s ∷ more) = omega (arith, grown.steps) in
     subst (λ (m : ℕ). Sound g m p) counted (from_sound g (n + 1) t.value p more grown.fits t.rest)
 
 -- a plan of a script fits the graph, and has one step for each statement after the load
 pub plan_sound : (s : Script) (g : GraphData) (p : Plan) → plan s g ≡ Ok p → Sound g (length s.statements) p
 plan_sound s g p e =
-    let t = through (at 1 (load s.graph)) (λ k. plan_from g 2 k s.statements) p e in
-    let begun = load_begins g s.graph t.value (judged_at 1 (load s.graph) t.value t.first) in
+    let t = through (at 1 (load s.form s.graph)) (λ k. plan_from g 2 k s.statements) p e in
+    let begun = load_begins g s.form s.graph t.value (judged_at 1 (load s.form s.graph) t.value t.first) in
     let counted : length t.value.steps + length s.statements ≡ length s.statements = omega (arith, begun.steps) in
     subst (λ (m : ℕ). Sound g m p) counted (from_sound g 2 t.value p s.statements begun.fits t.rest)

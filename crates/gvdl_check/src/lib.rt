@@ -10,6 +10,7 @@
 //! what its plan holds.
 #![tactic(auto)]
 
+mod built;
 mod call;
 mod copies;
 mod fault;

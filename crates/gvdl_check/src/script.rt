@@ -21,7 +21,8 @@ use std::alloc::Global;
 ///
 /// # Errors
 ///
-/// [`CheckFault::Fault`] with the first fault of the script against the graph, exactly where it has one;
+/// [`CheckFault::Fault`] with the first fault of the script against the graph, exactly where it has one: among them that
+/// a statement isn't built yet, judged before all else in it, and so the load where the script names a form;
 /// [`CheckFault::NoMemory`] where a request for memory was refused.
 pub fn check(alloc: Global, script: &Script, graph: &Graph) -> Result<Plan, CheckFault>
     requires written { IsWritten script.now }
@@ -38,7 +39,7 @@ fn judged(alloc: Global, script: &Script, graph: &Graph) -> Result<Plan, CheckFa
     requires { IsWritten script.now }
     ensures { Agrees (plan script.now graph.now) result }
 {
-    let mut known = match load(alloc, script.graph.as_str()) {
+    let mut known = match load(alloc, script.form, script.graph.as_str()) {
         Ok(known) => known,
         Err(stop) => return Err(stop_at(stop, 1)),
     };

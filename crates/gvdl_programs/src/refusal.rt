@@ -26,6 +26,8 @@ pub enum Refusal {
     TooManyKept,
     /// A split into segments of no view.
     BadSplit,
+    /// A statement, or a form of the script, that the program doesn't execute yet.
+    NotBuilt,
 }
 
 /// Why judging came to an end.

@@ -17,12 +17,21 @@ use Rattle.surge_cli.specs.declared.status.FileRole.TheVariants as role
 use Rattle.surge_cli.specs.declared.status.Status.{Status}
 use Rattle.surge_cli.specs.declared.status.Status.TheVariants as status
 
+-- the number of a refused script: of its own where a statement isn't built yet
+abbrev pub refusal_number : Refusal → ℕ
+refusal_number refusal.NotBuilt = 9
+refusal_number _ = 5
+
+abbrev pub script_number : ScriptRefusal → ℕ
+script_number (refused.Statement fault) = refusal_number fault.refusal
+script_number _ = 5
+
 abbrev pub status_number : Status → ℕ
 status_number status.Done = 0
 status_number status.Usage = 2
 status_number (status.Absent role) = 3
 status_number (status.Data fault) = 4
-status_number (status.Script fault) = 5
+status_number (status.Script fault) = script_number fault
 status_number status.ReadFault = 6
 status_number status.WriteFault = 7
 status_number status.NoMemory = 8
@@ -81,6 +90,7 @@ statement_refusal_name refusal.TooManyViews = codes "TooManyViews"
 statement_refusal_name refusal.BadRounds = codes "BadRounds"
 statement_refusal_name refusal.TooManyKept = codes "TooManyKept"
 statement_refusal_name refusal.BadSplit = codes "BadSplit"
+statement_refusal_name refusal.NotBuilt = codes "NotBuilt"
 
 abbrev pub script_refusal_name : ScriptRefusal → List ℕ
 script_refusal_name refused.TooLarge = codes "TooLarge"

@@ -1,7 +1,7 @@
 //! Why a script is refused, and the line that says so.
 
 ghost use Rattle.std.specs.Prelude.{◌≡◌, IfOk, string_bytes};
-ghost use Rattle.surge_cli.specs.StatusText.{text_fault_name, statement_refusal_name, script_refusal_name, text_fault_place, where_text, place_text, statement_text, script_line};
+ghost use Rattle.surge_cli.specs.StatusText.{refusal_number, script_number, text_fault_name, statement_refusal_name, script_refusal_name, text_fault_place, where_text, place_text, statement_text, script_line};
 
 use gvdl_check::StatementFault;
 use gvdl_parser::ScriptFault;
@@ -18,6 +18,26 @@ pub enum ScriptRefusal {
     Text(ScriptFault),
     /// The text is a script, and this is its first fault against its graph.
     Statement(StatementFault),
+}
+
+// The exit status of a process for a statement that is refused so.
+fn refusal_number(refusal: Refusal) -> u8
+    ensures { result ≡ refusal_number refusal }
+{
+    match refusal {
+        Refusal::NotBuilt => 9,
+        _ => 5,
+    }
+}
+
+/// The exit status of a process for a script that is refused so: 9 where what it asks for isn't built yet, and else 5.
+pub(crate) fn script_number(refusal: ScriptRefusal) -> u8
+    ensures { result ≡ script_number refusal }
+{
+    match refusal {
+        ScriptRefusal::Statement(fault) => refusal_number(fault.refusal),
+        _ => 5,
+    }
 }
 
 fn text_fault_name(fault: ScriptFault) -> &'static str
@@ -44,6 +64,7 @@ fn statement_refusal_name(refusal: Refusal) -> &'static str
         Refusal::BadRounds => "BadRounds",
         Refusal::TooManyKept => "TooManyKept",
         Refusal::BadSplit => "BadSplit",
+        Refusal::NotBuilt => "NotBuilt",
     }
 }
 

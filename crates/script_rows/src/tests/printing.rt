@@ -76,3 +76,35 @@ fn what_no_graph_takes(rt: HostRuntime) -> Result<(), Fail> {
     assert_eq!(rt; printed.as_slice(), canonical.as_bytes());
     Ok(())
 }
+
+#[test]
+fn statements_of_form_two(rt: HostRuntime) -> Result<(), Fail> {
+    let given = concat!(
+        "form 0002 ;load graph G nodes 'n' edges 'e';",
+        "run p on C within 1 round phases 007;run p on C for 1 round order tree keep as K;",
+        "show   tree C;insert edges '';remove edges where(not(y=1));",
+        "aggregate C group by \"g\" ;aggregate C group by \"group\" sum \"w\";",
+    );
+    let canonical = concat!(
+        "form 2;\n",
+        "load graph G nodes 'n' edges 'e';\n",
+        "run p on C within 1 rounds phases 7;\n",
+        "run p on C for 1 rounds order tree keep as K;\n",
+        "show tree C;\n",
+        "insert edges '';\n",
+        "remove edges where not y = 1;\n",
+        "aggregate C group by g;\n",
+        "aggregate C group by \"group\" sum w;\n",
+    );
+    let printed = printed_again(rt.alloc(), given)?;
+    assert_eq!(rt; printed.as_slice(), canonical.as_bytes());
+    Ok(())
+}
+
+#[test]
+fn any_number_of_a_form(rt: HostRuntime) -> Result<(), Fail> {
+    let text = "form 0;\nload graph G nodes 'n' edges 'e';\n";
+    let printed = printed_again(rt.alloc(), text)?;
+    assert_eq!(rt; printed.as_slice(), text.as_bytes());
+    Ok(())
+}

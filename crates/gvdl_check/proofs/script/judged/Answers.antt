@@ -1,7 +1,7 @@
 -- One statement more.
 use Rattle.std.proofs.Common.{◌≡◌, ◌∙◌, ℕ, ◌+◌, ◌<◌, List, length, get_or, drop, ap, arith, Ok}
 use Rattle.gvdl_tree.specs.declared.script.Statement.{Statement}
-use Rattle.gvdl_check.specs.Plans.{statement_added, plan_from}
+use Rattle.gvdl_check.specs.Plans.{statement_judged, plan_from}
 use Rattle.gvdl_check.specs.PlanLaws.{judged_grows}
 use Rattle.gvdl_check.proofs.SizeFacts.{few_statements}
 use Rattle.gvdl_check.proofs.PlanSteps.{next_from}
@@ -40,7 +40,7 @@ loop-statement-preserved c =
     let size = ap (λ (l : List Statement). length l) c.as_slice-statement-items.ensures in
     let lt : i < length ss = omega (arith, size, c.loop-statement-test.true) in
     let is : s ≡ get_or ss i s = cc (c.as_slice-statement-items.ensures, c.statement-item.is) in
-    let e : statement_added g k s ≡ Ok next = c.in_default.ensures in
+    let e : statement_judged g k s ≡ Ok next = c.in_default.ensures in
     let grown = judged_grows g k inv.fits next s e in
     let again : i + 2 + 1 ≡ i + 1 + 2 = omega arith in
     record {
