@@ -89,9 +89,16 @@ pub fn print_property(alloc: Global, name: &Text) -> Result<List<u8>, NoMemory>
 fn form_line(alloc: Global, form: Option<u64>) -> Result<List<u8>, NoMemory>
     ensures { IfOk result (λ text. text ≡ form_line form) }
 {
-    let Some(number) = form else {
-        return Ok(List::new(alloc));
-    };
+    match form {
+        None => Ok(List::new(alloc)),
+        Some(number) => written_form(alloc, number),
+    }
+}
+
+// The line of a form.
+fn written_form(alloc: Global, number: u64) -> Result<List<u8>, NoMemory>
+    ensures { IfOk result (λ text. text ≡ line (form_pieces number)) }
+{
     let mut page = Page::new(alloc);
     write_form(alloc, &mut page, number)?;
     ended(page)

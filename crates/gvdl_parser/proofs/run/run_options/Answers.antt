@@ -12,12 +12,12 @@ use Rattle.gvdl_parser.proofs.run.run_options.Goals as goal
 
 pub returns-then-not-within : goal.returns-then-not-within
 unfolding run_options
-returns-then-not-within c = c.unphased.ensures
+returns-then-not-within c = let no : c.args.within ≡ false = search rules in rw no c.unphased.ensures
 
 pub returns-then-sees_word : goal.returns-then-sees_word
 unfolding run_options
-returns-then-sees_word c = λ n. let e : next c.args.cursor.now.rest.now ≡ Some (t.Word w.Phases) = search rules in left_reads opens (λ m. phased) (λ m. unphased) alone n _ _ _ refl (λ m. unphased_avoids _ (ap (comes (kind.Word w.Phases)) e)) (c.phased.ensures n)
+returns-then-sees_word c = let yes : c.args.within ≡ true = search rules in rw yes (λ n. let e : next c.args.cursor.now.rest.now ≡ Some (t.Word w.Phases) = search rules in left_reads opens (λ m. phased) (λ m. unphased) alone n _ _ _ refl (λ m. unphased_avoids _ (ap (comes (kind.Word w.Phases)) e)) (c.phased.ensures n))
 
 pub returns : goal.returns
 unfolding run_options phased part
-returns c = λ n. let n0 : next c.args.cursor.now.rest.now ≢ Some (t.Word w.Phases) = search rules in right_reads opens (λ m. phased) (λ m. unphased) alone n _ _ _ refl (λ m. avoids_then _ _ _ alone (avoids_then _ _ _ alone (avoids_word _ _ alone n0))) (c.unphased-2.ensures n)
+returns c = let yes : c.args.within ≡ true = search rules in rw yes (λ n. let n0 : next c.args.cursor.now.rest.now ≢ Some (t.Word w.Phases) = search rules in right_reads opens (λ m. phased) (λ m. unphased) alone n _ _ _ refl (λ m. avoids_then _ _ _ alone (avoids_then _ _ _ alone (avoids_word _ _ alone n0))) (c.unphased-2.ensures n))
