@@ -2,7 +2,7 @@
 
 from collections import namedtuple
 
-from script import Append, Collection, Program, Rule, Run, ShowOrder, ShowWork, View
+from script import Aggregate, Append, Collection, Insert, Program, Remove, Rule, Run, ShowOrder, ShowTree, ShowWork, View
 from tokens import MOST
 
 Fault = namedtuple("Fault", "kind statement")
@@ -43,11 +43,13 @@ class Check:
         taken = (self.programs, self.bases, self.collections, self.kept)
         want(not any(name in it for it in taken), "RepeatedName")
 
-    def load(self, name):
+    def load(self, form, name):
+        want(form is None, "NotBuilt")
         self.want_free(name)
         self.bases.add(name)
 
     def statement(self, it):
+        want(not isinstance(it, (ShowTree, Insert, Remove, Aggregate)), "NotBuilt")
         if isinstance(it, View):
             self.want_free(it.name)
             want(it.base in self.bases, "UnknownName")
@@ -146,6 +148,7 @@ class Check:
     # Runs
 
     def run(self, it):
+        want(it.order != "tree" and it.phases is None, "NotBuilt")
         want(it.call.name in self.programs, "UnknownName")
         want(it.target in self.collections, "UnknownName")
         self.arguments(self.programs[it.call.name], it.call.arguments)
@@ -184,7 +187,7 @@ def first_fault(script, node_kinds, edge_kinds):
     check = Check(node_kinds, edge_kinds)
     number = 1
     try:
-        check.load(script.graph)
+        check.load(script.form, script.graph)
         for statement in script.statements:
             number += 1
             check.statement(statement)

@@ -130,7 +130,7 @@ def judged(words, folder):
             loaded = read_data(script, room)
     fault = check_faults.first_fault(script, loaded.node_kinds, loaded.edge_kinds)
     if fault:
-        raise Refused(5, f"script: statement {fault.statement}: {fault.kind}")
+        raise Refused(9 if fault.kind == "NotBuilt" else 5, f"script: statement {fault.statement}: {fault.kind}")
     return asked, script, loaded
 
 
