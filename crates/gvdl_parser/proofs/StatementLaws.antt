@@ -1,5 +1,5 @@
 -- Statements: there are some, more levels give more, and what they begin with.
-use Rattle.std.proofs.Common.{◌≡◌, ◌≢◌, ℕ, zero, suc, ◌<◌, length, length-append, arith, true, false, List, [], ◌∷◌, ◌++◌, Option, Some, None, Result, Ok, Err, refl, sym, ap, ◌∙◌}
+use Rattle.std.proofs.Common.{◌≡◌, ◌≢◌, ℕ, zero, suc, ◌<◌, length, length-append, arith, Bool, true, false, List, [], ◌∷◌, ◌++◌, Option, Some, None, Result, Ok, Err, refl, sym, ap, ◌∙◌}
 use Rattle.std.proofs.lemmas.Bool.{eqb-true, eqb-false}
 use Rattle.std.specs.Prelude.{◌==◌}
 use Rattle.gvdl_tokens.specs.declared.token.Token.{Token}
@@ -325,10 +325,10 @@ module _ {d : ℕ} {ts : List Token} where
   unfolding script
   form_stuck {e} {rest} f = first_fails (λ n. form_part) script_behind after_form after_script form_apart d ts e rest script_behind_has f
 
-  pub form_read : {form : Option ℕ} {mid : List Token} (r : Result Script Fault) {rest : List Token} → Finds (λ n. form_part) after_form d ts form mid → Reads opens (λ n. script_behind n form) after_script d mid r rest → Reads opens script after_script d ts r rest
+  pub form_read : {form : Option ℕ} {mid : List Token} (r : Result Script Fault) (rest : List Token) → Finds (λ n. form_part) after_form d ts form mid → Reads opens (λ n. script_behind n form) after_script d mid r rest → Reads opens script after_script d ts r rest
   unfolding script
-  form_read {form} {mid} (Ok tree) {rest} p q = then_finds (λ n. form_part) script_behind after_form after_script form_apart d ts form mid tree rest p q
-  form_read {form} {mid} (Err e) {rest} p q = then_fails (λ n. form_part) script_behind after_form after_script form_apart d ts form mid e rest (λ n us a h. h) p q
+  form_read {form} {mid} (Ok tree) rest p q = then_finds (λ n. form_part) script_behind after_form after_script form_apart d ts form mid tree rest p q
+  form_read {form} {mid} (Err e) rest p q = then_fails (λ n. form_part) script_behind after_form after_script form_apart d ts form mid e rest (λ n us a h. h) p q
 
 negation_no_window : (n : ℕ) → Clear (negation n) alone (kind.Word w.Window)
 unfolding negation negated enclosed atom operand_phrase number_operand text_operand truth_operand source_operand target_operand edge_operand int prop
