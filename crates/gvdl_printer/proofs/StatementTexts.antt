@@ -45,7 +45,7 @@ behind_is {A} {f} w each ts a q =
     named (step q (word_is q.first) (step k (each k.front k.tree k.first) (pure_is k.second)))
     (ap (λ (x : List Token). t.Word w ∷ x) (append-nil (f k.tree)) ∙ ap (λ (x : A). t.Word w ∷ f x) (sym k.second.1))
 
-part_is : {A : Type 0} {f : A → List Token} {L M : List Token → A → Type 0} (w : Word) → Writes f L M → Writes (λ a. t.Word w ∷ (f a ++ (t.Sign s.Semicolon ∷ []))) (part w L) (part w M)
+pub part_is : {A : Type 0} {f : A → List Token} {L M : List Token → A → Type 0} (w : Word) → Writes f L M → Writes (λ a. t.Word w ∷ (f a ++ (t.Sign s.Semicolon ∷ []))) (part w L) (part w M)
 unfolding part
 part_is {A} {f} w each ts a q =
     let k = q.second in
@@ -53,7 +53,7 @@ part_is {A} {f} w each ts a q =
     named (step q (word_is q.first) (step k (each k.front k.tree k.first) (step l (word_is l.first) (pure_is l.second))))
     (ap (λ (x : A). t.Word w ∷ (f x ++ (t.Sign s.Semicolon ∷ []))) (sym l.second.1))
 
-optional_is : {A : Type 0} {f : A → List Token} {L M : List Token → A → Type 0} (g : Option A → List Token) → g None ≡ [] → ((a : A) → g (Some a) ≡ f a) → Writes f L M → Writes g (optional L) (optional M)
+pub optional_is : {A : Type 0} {f : A → List Token} {L M : List Token → A → Type 0} (g : Option A → List Token) → g None ≡ [] → ((a : A) → g (Some a) ≡ f a) → Writes f L M → Writes g (optional L) (optional M)
 optional_is {A} {f} g at_none at_some each ts o q = elim q.which [
   | inl h ↦ named (left (step h (each h.front h.tree h.first) (pure_is h.second))) (append-nil (f h.tree) ∙ sym (at_some h.tree) ∙ ap g (sym h.second.1))
   | inr h ↦ named (right (pure_is h)) (sym (ap g h.1 ∙ at_none))
