@@ -31,7 +31,8 @@ def want(holds, kind):
 class Check:
     """What is known behind the statements so far. node_kinds and edge_kinds give the kind of each property."""
 
-    def __init__(self, node_kinds, edge_kinds):
+    def __init__(self, form, node_kinds, edge_kinds):
+        self.form = form
         self.kinds = {"edge": edge_kinds, "src": node_kinds, "dst": node_kinds, "node": node_kinds}
         # (each name with what it stands for: a call of a program wants these arguments, a collection has these views)
         self.programs = dict(BUILT_IN)
@@ -43,13 +44,14 @@ class Check:
         taken = (self.programs, self.bases, self.collections, self.kept)
         want(not any(name in it for it in taken), "RepeatedName")
 
-    def load(self, form, name):
-        want(form is None, "NotBuilt")
+    def load(self, name):
         self.want_free(name)
         self.bases.add(name)
 
     def statement(self, it):
-        want(not isinstance(it, (ShowTree, Insert, Remove, Aggregate)), "NotBuilt")
+        if needs_second(it):
+            want(self.form == 2, "NeedsForm")
+            want(False, "NotBuilt")
         if isinstance(it, View):
             self.want_free(it.name)
             want(it.base in self.bases, "UnknownName")
@@ -148,7 +150,6 @@ class Check:
     # Runs
 
     def run(self, it):
-        want(it.order != "tree" and it.phases is None, "NotBuilt")
         want(it.call.name in self.programs, "UnknownName")
         want(it.target in self.collections, "UnknownName")
         self.arguments(self.programs[it.call.name], it.call.arguments)
@@ -182,12 +183,21 @@ def parts_of(tree):
     return tree[1:] if kind in ("min", "max") else []
 
 
+def needs_second(it):
+    """Whether only form 2 has the statement."""
+    if isinstance(it, Run):
+        return it.order == "tree" or it.phases is not None
+    return isinstance(it, (ShowTree, Insert, Remove, Aggregate))
+
+
 def first_fault(script, node_kinds, edge_kinds):
-    """The first fault, or None. The load is statement 1."""
-    check = Check(node_kinds, edge_kinds)
+    """The first fault, or None. The load is statement 1; a bad form is the fault of no statement, and so of statement 0."""
+    if script.form not in (None, 1, 2):
+        return Fault("BadForm", 0)
+    check = Check(script.form, node_kinds, edge_kinds)
     number = 1
     try:
-        check.load(script.form, script.graph)
+        check.load(script.graph)
         for statement in script.statements:
             number += 1
             check.statement(statement)

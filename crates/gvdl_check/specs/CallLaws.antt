@@ -36,7 +36,7 @@ use Rattle.gvdl_check.specs.Views.{items_added}
 use Rattle.gvdl_check.specs.Plans.{load, single, collection, views_appended, append, program, order_of, keep_added, run_plan, program_meant, limits_meant, run_planned, run, limits_of, show_order, show_work, statement_added, statement_judged, plan_of, plan_from, plan}
 use Rattle.gvdl_programs.specs.declared.refusal.Refusal.TheVariants as refusal
 use Rattle.gvdl_check.specs.KnownLaws.{loaded_so}
-use Rattle.gvdl_check.specs.PlanLaws.{judged_at, added_so}
+use Rattle.gvdl_check.specs.PlanLaws.{judged_at, added_so, form_passed}
 
 module _ (P : Call → Type 0) where
   -- what is said of calls holds of the one in a statement, where there is one
@@ -131,15 +131,15 @@ module _ (P : Call → Type 0) where
     statement_holds (statement.Remove rule) h = refused_holds
     statement_holds (statement.Aggregate target by sum) h = refused_holds
 
-  from_holds : (g : GraphData) (n : ℕ) (k : Known) (p : Plan) (ss : List Statement) → RunsHold k → All CallHolds ss → plan_from g n k ss ≡ Ok p → All RunHolds p.runs
-  from_holds g n k p [] held h e = subst (λ (q : Plan). All RunHolds q.runs) (same_value (plan_of k) p e) held
-  from_holds g n k p (s ∷ more) held h e =
-      let t = through (at n (statement_judged g k s)) (λ next. plan_from g (n + 1) next more) p e in
-      let added : statement_added g k s ≡ Ok t.value = added_so g k t.value s (judged_at n (statement_judged g k s) t.value t.first) in
-      from_holds g (n + 1) t.value p more (statement_holds g k held s (All-head CallHolds s more h) t.value added) (All-tail CallHolds s more h) t.rest
+  from_holds : (form : Option ℕ) (g : GraphData) (n : ℕ) (k : Known) (p : Plan) (ss : List Statement) → RunsHold k → All CallHolds ss → plan_from form g n k ss ≡ Ok p → All RunHolds p.runs
+  from_holds form g n k p [] held h e = subst (λ (q : Plan). All RunHolds q.runs) (same_value (plan_of k) p e) held
+  from_holds form g n k p (s ∷ more) held h e =
+      let t = through (at n (statement_judged form g k s)) (λ next. plan_from form g (n + 1) next more) p e in
+      let added : statement_added g k s ≡ Ok t.value = added_so form g k t.value s (judged_at n (statement_judged form g k s) t.value t.first) in
+      from_holds form g (n + 1) t.value p more (statement_holds g k held s (All-head CallHolds s more h) t.value added) (All-tail CallHolds s more h) t.rest
 
   -- what holds of each call of a script holds of each call of its plan
   pub calls_hold : (s : Script) (g : GraphData) (p : Plan) → All CallHolds s.statements → plan s g ≡ Ok p → All (λ run. P run.call) p.runs
   calls_hold s g p h e =
-      let t = through (at 1 (load s.form s.graph)) (λ k. plan_from g 2 k s.statements) p e in
-      from_holds g 2 t.value p s.statements (subst RunsHold (loaded_so s.form s.graph t.value (judged_at 1 (load s.form s.graph) t.value t.first)) (All-nil RunHolds)) h t.rest
+      let t = through (at 1 (load s.graph)) (λ k. plan_from s.form g 2 k s.statements) p (form_passed s g p e) in
+      from_holds s.form g 2 t.value p s.statements (subst RunsHold (loaded_so s.graph t.value (judged_at 1 (load s.graph) t.value t.first)) (All-nil RunHolds)) h t.rest

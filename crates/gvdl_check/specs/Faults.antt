@@ -3,11 +3,13 @@ use Rattle.std.specs.Prelude.{◌≡◌, ◌⊎◌, ℕ, Result, Ok, Err}
 use Rattle.gvdl_check.specs.declared.fault.CheckFault.{CheckFault}
 use Rattle.gvdl_check.specs.declared.fault.CheckFault.TheVariants as fault
 use Rattle.gvdl_programs.specs.declared.refusal.Refusal.{Refusal}
+use Rattle.gvdl_programs.specs.declared.refusal.Refusal.TheVariants as refusal
 use Rattle.gvdl_programs.specs.declared.refusal.Stop.{Stop}
 use Rattle.gvdl_programs.specs.declared.refusal.Stop.TheVariants as stop
 use Rattle.gvdl_programs.specs.Judging.{Judged}
 
 abbrev pub fault_at : ℕ → Refusal → CheckFault
+fault_at n refusal.NotBuilt = fault.NotBuilt n
 fault_at n r = fault.Fault (record { statement = n; refusal = r })
 
 -- what is judged of the statement with this number

@@ -61,7 +61,6 @@ use Rattle.gvdl_check.specs.Names.{as_program, program_named, known_program, pro
 use Rattle.gvdl_check.specs.Predicates.{predicate}
 use Rattle.gvdl_check.specs.Singles.{rules_at}
 use Rattle.gvdl_check.specs.Views.{items_added}
-use Rattle.gvdl_check.specs.Built.{is_built_form}
 use Rattle.gvdl_check.specs.Plans.{load, single, collection, views_appended, append, program}
 use Rattle.gvdl_check.specs.Plans.{are_rounds, rounds_with}
 use Rattle.gvdl_check.specs.Plans.{rounds_of, order_of, every, split_of, kept_among, keep_added}
@@ -472,12 +471,10 @@ no_steps : StepsFit [] [] []
 no_steps = record { collections = refl; runs = refl; views = λ place. refl; each = λ n lt. absurd (omega (arith, lt)) }
 
 -- what the load gives, where it gives something
-pub loaded_so : (form : Option ℕ) (graph : List ℕ) (k : Known) → load form graph ≡ Ok k → loaded graph ≡ k
-loaded_so form graph k e =
-    let last : Judged Known = Ok (loaded graph) in
-    let t = through (expect (is_built_form form) refusal.NotBuilt) (λ _. new_name first_names graph >>= λ _. last) k e in
-    let u = through (new_name first_names graph) (λ _. last) k t.rest in
-    same_value (loaded graph) k u.rest
+pub loaded_so : (graph : List ℕ) (k : Known) → load graph ≡ Ok k → loaded graph ≡ k
+loaded_so graph k e =
+    let t = through (new_name first_names graph) (λ _. Ok (loaded graph)) k e in
+    same_value (loaded graph) k t.rest
 
 -- what is known after the load fits any graph, and is nothing but names
 pub record Begins (g : GraphData) (k : Known) : Type 0 where
@@ -485,9 +482,9 @@ pub record Begins (g : GraphData) (k : Known) : Type 0 where
   pub small : IsSmall 0 k
   pub steps : length k.steps ≡ 0
 
-pub load_begins : (g : GraphData) (form : Option ℕ) (graph : List ℕ) (k : Known) → load form graph ≡ Ok k → Begins g k
-load_begins g form graph k e =
-    subst (Begins g) (loaded_so form graph k e) (record {
+pub load_begins : (g : GraphData) (graph : List ℕ) (k : Known) → load graph ≡ Ok k → Begins g k
+load_begins g graph k e =
+    subst (Begins g) (loaded_so graph k e) (record {
       fits = record {
         names = All-push (NameFits g 0 0) first_names (graph, meaning.Base None) (first_fit g) tt;
         singles = All-nil (RuleFits g);

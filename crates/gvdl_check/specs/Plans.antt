@@ -37,7 +37,8 @@ use Rattle.gvdl_check.specs.declared.plan.Step.TheVariants as step
 use Rattle.gvdl_check.specs.declared.plan.Plan.{Plan}
 use Rattle.gvdl_check.specs.declared.known.Known.{Known}
 use Rattle.gvdl_check.specs.declared.call.Limits.{Limits}
-use Rattle.gvdl_check.specs.Built.{is_built_form, is_built}
+use Rattle.gvdl_check.specs.Forms.{form_judged, suits}
+use Rattle.gvdl_check.specs.Built.{is_built}
 use Rattle.gvdl_check.specs.Faults.{at}
 use Rattle.gvdl_check.specs.Known.{first_names, loaded, with_step, with_single, with_collection}
 use Rattle.gvdl_check.specs.Known.{views_in}
@@ -49,9 +50,8 @@ use Rattle.gvdl_check.specs.Views.{items_added}
 
 -- ---- the load
 
-abbrev pub load : Option ℕ → List ℕ → Judged Known
-load form graph = do
-  expect (is_built_form form) refusal.NotBuilt
+abbrev pub load : List ℕ → Judged Known
+load graph = do
   new_name first_names graph
   Ok (loaded graph)
 
@@ -214,24 +214,31 @@ statement_added g k (statement.Insert file) = Err refusal.NotBuilt
 statement_added g k (statement.Remove rule) = Err refusal.NotBuilt
 statement_added g k (statement.Aggregate target by sum) = Err refusal.NotBuilt
 
--- the same, where what is not built is told before all else
-abbrev pub statement_judged : GraphData → Known → Statement → Judged Known
-statement_judged g k s = do
+-- the same, where it is judged first that the script is of a form that has the statement, and then that it is built
+abbrev pub statement_judged : Option ℕ → GraphData → Known → Statement → Judged Known
+statement_judged form g k s = do
+  expect (suits form s) refusal.NeedsForm
   expect (is_built s) refusal.NotBuilt
   statement_added g k s
 
 abbrev pub plan_of : Known → Plan
 plan_of k = record { collections = k.collections; runs = k.runs; steps = k.steps }
 
--- the plan after these statements, of which the first has number n
-abbrev pub plan_from : GraphData → ℕ → Known → List Statement → Result Plan CheckFault
-plan_from g n k [] = Ok (plan_of k)
-plan_from g n k (s ∷ more) = do
-  next ← at n (statement_judged g k s)
-  plan_from g (n + 1) next more
+-- the plan after these statements of a script of this form, of which the first has number n
+abbrev pub plan_from : Option ℕ → GraphData → ℕ → Known → List Statement → Result Plan CheckFault
+plan_from form g n k [] = Ok (plan_of k)
+plan_from form g n k (s ∷ more) = do
+  next ← at n (statement_judged form g k s)
+  plan_from form g (n + 1) next more
 
 -- statement 1 is the load
+abbrev pub plan_loaded : Script → GraphData → Result Plan CheckFault
+plan_loaded s g = do
+  k ← at 1 (load s.graph)
+  plan_from s.form g 2 k s.statements
+
+-- the form is judged before statement 1
 abbrev pub plan : Script → GraphData → Result Plan CheckFault
 plan s g = do
-  k ← at 1 (load s.form s.graph)
-  plan_from g 2 k s.statements
+  form_judged s.form
+  plan_loaded s g

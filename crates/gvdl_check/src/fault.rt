@@ -20,9 +20,15 @@ pub struct StatementFault {
 /// Why [`check`](crate::check) answers no plan.
 #[derive(Clone, Copy, Debug, PartialEq, Eq, Error)]
 pub enum CheckFault {
+    /// The script writes a form that is neither 1 nor 2.
+    #[error("there is no such form")]
+    BadForm,
     /// The script has this fault, which is its first.
     #[error("{0}")]
     Fault(StatementFault),
+    /// No statement before this one has a fault, and this one is not built yet. Statements count from 1.
+    #[error("statement {0} is not built")]
+    NotBuilt(u32),
     /// A request for memory was refused.
     #[error("out of memory")]
     NoMemory,
@@ -42,7 +48,10 @@ impl From<NoMemory> for CheckFault {
 fn fault_at(refusal: Refusal, statement: u32) -> CheckFault
     ensures { result ≡ fault_at statement refusal }
 {
-    CheckFault::Fault(StatementFault { statement, refusal })
+    match refusal {
+        Refusal::NotBuilt => CheckFault::NotBuilt(statement),
+        _ => CheckFault::Fault(StatementFault { statement, refusal }),
+    }
 }
 
 /// Why the judging of the statement with this number came to an end.

@@ -14,6 +14,7 @@ mod built;
 mod call;
 mod copies;
 mod fault;
+mod form;
 mod item;
 mod keep;
 mod known;

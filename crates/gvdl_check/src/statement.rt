@@ -10,9 +10,10 @@ ghost use Rattle.gvdl_check.specs.Plans.{run_planned, run, show_order, show_work
 ghost use Rattle.gvdl_check.specs.Names.{program_named};
 ghost use Rattle.gvdl_check.specs.Fits.{KnownFits, IsSmall};
 
-use crate::built::{is_built, is_built_form};
+use crate::built::is_built;
 use crate::call::{Limits, order_of};
 use crate::copies::{copied_text, copied_words};
+use crate::form::suits;
 use crate::item::add_items;
 use crate::keep::add_keep;
 use crate::known::Known;
@@ -41,13 +42,10 @@ fn first_names(alloc: Global) -> Result<Names, NoMemory>
     Ok(names)
 }
 
-/// What is known after the load of a graph with this name, in a script of this form.
-pub(crate) fn load(alloc: Global, form: Option<u64>, graph: &str) -> Result<Known, Stop>
-    ensures { Tells (load form graph.now) result }
+/// What is known after the load of a graph with this name.
+pub(crate) fn load(alloc: Global, graph: &str) -> Result<Known, Stop>
+    ensures { Tells (load graph.now) result }
 {
-    if !is_built_form(form) {
-        return Err(Stop::Refused(Refusal::NotBuilt));
-    }
     let mut names = first_names(alloc)?;
     names.expect_new(graph)?;
     names.add(alloc, graph, Meaning::Base(None))?;
@@ -264,7 +262,7 @@ fn add_show_work(known: &mut Known, name: &str) -> Result<(), Stop>
     Ok(())
 }
 
-// Judges a statement, whether or not it is built, over what is known, and notes what is known after it.
+// Judges a statement that suits the form of its script and is built, over what is known, and notes what is known after it.
 fn add_any(
     alloc: Global,
     graph: &Graph,
@@ -331,18 +329,22 @@ fn add_any(
     }
 }
 
-/// Judges a statement over what is known, and notes what is known after it. After a refusal nothing is said of what is
-/// known.
+/// Judges a statement of a script of this form over what is known, and notes what is known after it. After a refusal nothing
+/// is said of what is known.
 pub(crate) fn add_statement(
     alloc: Global,
+    form: Option<u64>,
     graph: &Graph,
     known: &mut Known,
     statement: &Statement,
 ) -> Result<(), Stop>
     requires fits { KnownFits graph.now known.old }
     requires small { IsSmall (2 ^ 32 - 1) known.old }
-    ensures { Leaves (statement_judged graph.now known.old statement.now) result known.new }
+    ensures { Leaves (statement_judged form graph.now known.old statement.now) result known.new }
 {
+    if !suits(form, statement) {
+        return Err(Stop::Refused(Refusal::NeedsForm));
+    }
     if !is_built(statement) {
         return Err(Stop::Refused(Refusal::NotBuilt));
     }

@@ -26,7 +26,9 @@ pub enum Refusal {
     TooManyKept,
     /// A split into segments of no view.
     BadSplit,
-    /// A statement, or a form of the script, that the program doesn't execute yet.
+    /// A statement that only form 2 of the language has, in a script of form 1.
+    NeedsForm,
+    /// A statement that the program doesn't execute yet.
     NotBuilt,
 }
 

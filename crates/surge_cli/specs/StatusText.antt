@@ -18,12 +18,8 @@ use Rattle.surge_cli.specs.declared.status.Status.{Status}
 use Rattle.surge_cli.specs.declared.status.Status.TheVariants as status
 
 -- the number of a refused script: of its own where a statement isn't built yet
-abbrev pub refusal_number : Refusal → ℕ
-refusal_number refusal.NotBuilt = 9
-refusal_number _ = 5
-
 abbrev pub script_number : ScriptRefusal → ℕ
-script_number (refused.Statement fault) = refusal_number fault.refusal
+script_number (refused.NotBuilt n) = 9
 script_number _ = 5
 
 abbrev pub status_number : Status → ℕ
@@ -90,12 +86,15 @@ statement_refusal_name refusal.TooManyViews = codes "TooManyViews"
 statement_refusal_name refusal.BadRounds = codes "BadRounds"
 statement_refusal_name refusal.TooManyKept = codes "TooManyKept"
 statement_refusal_name refusal.BadSplit = codes "BadSplit"
+statement_refusal_name refusal.NeedsForm = codes "NeedsForm"
 statement_refusal_name refusal.NotBuilt = codes "NotBuilt"
 
 abbrev pub script_refusal_name : ScriptRefusal → List ℕ
 script_refusal_name refused.TooLarge = codes "TooLarge"
 script_refusal_name (refused.Text fault) = text_fault_name fault
+script_refusal_name refused.BadForm = codes "BadForm"
 script_refusal_name (refused.Statement fault) = statement_refusal_name fault.refusal
+script_refusal_name (refused.NotBuilt n) = codes "NotBuilt"
 
 abbrev pub place_text : (line column : ℕ) → List ℕ
 place_text line column = codes "line " ++ (decimal line ++ (codes " column " ++ (decimal column ++ codes ": ")))
@@ -114,11 +113,21 @@ text_fault_place (faulty.TooDeep line column) = place_text line column
 abbrev pub where_text : ScriptRefusal → List ℕ
 where_text refused.TooLarge = []
 where_text (refused.Text fault) = text_fault_place fault
+where_text refused.BadForm = []
 where_text (refused.Statement fault) = statement_text fault.statement
+where_text (refused.NotBuilt n) = statement_text n
 
 -- where a script is refused, and why
+abbrev pub refused_line : ScriptRefusal → List ℕ
+refused_line why = codes "surge: script: " ++ (where_text why ++ (script_refusal_name why ++ 10 ∷ []))
+
+-- of a statement that isn't built yet
+abbrev pub unbuilt_line : ℕ → List ℕ
+unbuilt_line n = codes "surge: not built: statement " ++ (decimal n ++ 10 ∷ [])
+
 abbrev pub script_line : ScriptRefusal → List ℕ
-script_line why = codes "surge: script: " ++ (where_text why ++ (script_refusal_name why ++ 10 ∷ []))
+script_line (refused.NotBuilt n) = unbuilt_line n
+script_line why = refused_line why
 
 -- one line, or nothing where the run is done
 abbrev pub status_line : Status → List ℕ
