@@ -210,6 +210,10 @@ canonical_tokens script = form_tokens script.form ++ (tokens (load_pieces script
 abbrev pub canonical_property : List ℕ → List ℕ
 canonical_property name = laid_out (prop_piece name ∷ [])
 
+-- the canonical text of a string
+abbrev pub canonical_string : List ℕ → List ℕ
+canonical_string string = laid_out (plain (t.Str string) ∷ [])
+
 -- the canonical text of a call
 abbrev pub canonical_call : Call → List ℕ
 canonical_call call = laid_out (call_pieces call)

@@ -6,7 +6,7 @@ ghost use Rattle.gvdl_parser.specs.Statements.{script as script_phrase};
 ghost use Rattle.gvdl_parser.specs.Script.{IsScriptWith, IsScript};
 ghost use Rattle.gvdl_printer.specs.Again.{IsScriptAgain, IsParsedAs};
 ghost use Rattle.gvdl_printer.specs.Layout.{line};
-ghost use Rattle.gvdl_printer.specs.Canonical.{canonical, canonical_tokens, canonical_call, canonical_property, form_pieces, form_line, load_pieces, statement_pieces};
+ghost use Rattle.gvdl_printer.specs.Canonical.{canonical, canonical_tokens, canonical_call, canonical_property, canonical_string, form_pieces, form_line, load_pieces, statement_pieces};
 ghost use Rattle.gvdl_printer.specs.Pages.{wrote};
 
 use crate::aggregate::aggregate;
@@ -82,6 +82,19 @@ pub fn print_property(alloc: Global, name: &Text) -> Result<List<u8>, NoMemory>
 {
     let mut page = Page::new(alloc);
     prop(&mut page, name)?;
+    Ok(page.text)
+}
+
+/// A text as a string of the script language: in single quotes, each quote in it written twice.
+///
+/// # Errors
+///
+/// [`NoMemory`] where a request for memory was refused.
+pub fn print_string(alloc: Global, string: &Text) -> Result<List<u8>, NoMemory>
+    ensures { IfOk result (λ text. text ≡ canonical_string string.now) }
+{
+    let mut page = Page::new(alloc);
+    page.string(string)?;
     Ok(page.text)
 }
 
