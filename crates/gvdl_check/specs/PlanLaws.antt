@@ -4,14 +4,14 @@ use Rattle.graph_model.specs.GraphData.{GraphData}
 use Rattle.gvdl_tree.specs.declared.script.Script.{Script}
 use Rattle.gvdl_tree.specs.declared.script.Statement.{Statement}
 use Rattle.gvdl_programs.specs.declared.refusal.Refusal.TheVariants as refusal
-use Rattle.gvdl_programs.specs.Judging.{Judged, ◌>>=◌, expect}
+use Rattle.gvdl_programs.specs.Judging.{Judged, expect}
 use Rattle.gvdl_programs.specs.JudgingLaws.{through, same_value}
 use Rattle.gvdl_check.specs.declared.plan.Plan.{Plan}
 use Rattle.gvdl_check.specs.declared.known.Known.{Known}
 use Rattle.gvdl_check.specs.Faults.{at}
 use Rattle.gvdl_check.specs.Forms.{form_judged, suits}
 use Rattle.gvdl_check.specs.Built.{is_built}
-use Rattle.gvdl_check.specs.Plans.{load, statement_added, statement_judged, plan_of, plan_from, plan_loaded, plan}
+use Rattle.gvdl_check.specs.Plans.{load, statement_added, statement_built, statement_judged, plan_of, plan_from, plan_loaded, plan}
 use Rattle.gvdl_check.specs.Fits.{KnownFits, PlanFits}
 use Rattle.gvdl_check.specs.StepLaws.{each_fits, some_views, all_views}
 use Rattle.gvdl_check.specs.KnownLaws.{Grows, statement_grows, load_begins}
@@ -23,9 +23,8 @@ judged_at n (Err r) a e = absurd cc
 -- a statement that is judged to have a value has it, suits the form and is built
 pub added_so : (form : Option ℕ) (g : GraphData) (k next : Known) (s : Statement) → statement_judged form g k s ≡ Ok next → statement_added g k s ≡ Ok next
 added_so form g k next s e =
-    let built : Judged (Unit {0}) = expect (is_built s) refusal.NotBuilt in
-    let t = through (expect (suits form s) refusal.NeedsForm) (λ _. built >>= λ _. statement_added g k s) next e in
-    (through built (λ _. statement_added g k s) next t.rest).rest
+    let t = through (expect (suits form s) refusal.NeedsForm) (λ _. statement_built g k s) next e in
+    (through (expect (is_built s) refusal.NotBuilt) (λ _. statement_added g k s) next t.rest).rest
 
 pub judged_grows : (form : Option ℕ) (g : GraphData) (k : Known) → KnownFits g k → (next : Known) (s : Statement)
     → statement_judged form g k s ≡ Ok next → Grows g k next

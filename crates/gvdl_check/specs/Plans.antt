@@ -214,12 +214,17 @@ statement_added g k (statement.Insert file) = Err refusal.NotBuilt
 statement_added g k (statement.Remove rule) = Err refusal.NotBuilt
 statement_added g k (statement.Aggregate target by sum) = Err refusal.NotBuilt
 
--- the same, where it is judged first that the script is of a form that has the statement, and then that it is built
+-- the same, where what is not built is told before all else
+abbrev pub statement_built : GraphData → Known → Statement → Judged Known
+statement_built g k s = do
+  expect (is_built s) refusal.NotBuilt
+  statement_added g k s
+
+-- the same, where it is judged first that the script is of a form that has the statement
 abbrev pub statement_judged : Option ℕ → GraphData → Known → Statement → Judged Known
 statement_judged form g k s = do
   expect (suits form s) refusal.NeedsForm
-  expect (is_built s) refusal.NotBuilt
-  statement_added g k s
+  statement_built g k s
 
 abbrev pub plan_of : Known → Plan
 plan_of k = record { collections = k.collections; runs = k.runs; steps = k.steps }

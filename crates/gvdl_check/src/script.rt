@@ -37,6 +37,7 @@ pub fn check(alloc: Global, script: &Script, graph: &Graph) -> Result<Plan, Chec
 }
 
 // The same: first the form, and then the statements.
+#[tactic(auto, using(crate::proofs::PlanAnswers::form_refused, crate::proofs::PlanAnswers::form_taken))]
 fn judged(alloc: Global, script: &Script, graph: &Graph) -> Result<Plan, CheckFault>
     requires { IsWritten script.now }
     ensures { Agrees (plan script.now graph.now) result }

@@ -6,7 +6,7 @@ ghost use Rattle.gvdl_programs.specs.Judging.{Tells, Leaves};
 ghost use Rattle.gvdl_programs.specs.Fits.{ProgramFits};
 ghost use Rattle.gvdl_check.specs.Known.{first_names};
 ghost use Rattle.gvdl_check.specs.Plans.{load, single, collection, views_appended, append, program, program_meant};
-ghost use Rattle.gvdl_check.specs.Plans.{run_planned, run, show_order, show_work, statement_added, statement_judged};
+ghost use Rattle.gvdl_check.specs.Plans.{run_planned, run, show_order, show_work, statement_added, statement_built, statement_judged};
 ghost use Rattle.gvdl_check.specs.Names.{program_named};
 ghost use Rattle.gvdl_check.specs.Fits.{KnownFits, IsSmall};
 
@@ -329,6 +329,23 @@ fn add_any(
     }
 }
 
+// Judges a statement that suits the form of its script.
+fn add_built(
+    alloc: Global,
+    graph: &Graph,
+    known: &mut Known,
+    statement: &Statement,
+) -> Result<(), Stop>
+    requires fits { KnownFits graph.now known.old }
+    requires small { IsSmall (2 ^ 32 - 1) known.old }
+    ensures { Leaves (statement_built graph.now known.old statement.now) result known.new }
+{
+    if !is_built(statement) {
+        return Err(Stop::Refused(Refusal::NotBuilt));
+    }
+    add_any(alloc, graph, known, statement)
+}
+
 /// Judges a statement of a script of this form over what is known, and notes what is known after it. After a refusal nothing
 /// is said of what is known.
 pub(crate) fn add_statement(
@@ -345,8 +362,5 @@ pub(crate) fn add_statement(
     if !suits(form, statement) {
         return Err(Stop::Refused(Refusal::NeedsForm));
     }
-    if !is_built(statement) {
-        return Err(Stop::Refused(Refusal::NotBuilt));
-    }
-    add_any(alloc, graph, known, statement)
+    add_built(alloc, graph, known, statement)
 }

@@ -1,5 +1,5 @@
 -- The numbers and the lines of the program's answers.
-use Rattle.std.specs.Prelude.{ℕ, List, [], ◌∷◌, ◌++◌, codes}
+use Rattle.std.specs.Prelude.{ℕ, List, [], ◌∷◌, ◌++◌, codes, Option, Some, None}
 use Rattle.std.specs.Fmt.{decimal}
 use Rattle.graph_loader.specs.declared.fault.DataFile.{DataFile}
 use Rattle.graph_loader.specs.declared.fault.DataFile.TheVariants as file
@@ -125,9 +125,16 @@ refused_line why = codes "surge: script: " ++ (where_text why ++ (script_refusal
 abbrev pub unbuilt_line : ℕ → List ℕ
 unbuilt_line n = codes "surge: not built: statement " ++ (decimal n ++ 10 ∷ [])
 
+abbrev pub unbuilt_of : ScriptRefusal → Option ℕ
+unbuilt_of (refused.NotBuilt n) = Some n
+unbuilt_of _ = None
+
+abbrev pub line_with : ScriptRefusal → Option ℕ → List ℕ
+line_with why None = refused_line why
+line_with why (Some n) = unbuilt_line n
+
 abbrev pub script_line : ScriptRefusal → List ℕ
-script_line (refused.NotBuilt n) = unbuilt_line n
-script_line why = refused_line why
+script_line why = line_with why (unbuilt_of why)
 
 -- one line, or nothing where the run is done
 abbrev pub status_line : Status → List ℕ

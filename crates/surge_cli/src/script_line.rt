@@ -1,7 +1,7 @@
 //! Why a script is refused, and the line that says so.
 
 ghost use Rattle.std.specs.Prelude.{◌≡◌, IfOk, string_bytes};
-ghost use Rattle.surge_cli.specs.StatusText.{script_number, text_fault_name, statement_refusal_name, script_refusal_name, text_fault_place, where_text, place_text, statement_text, refused_line, unbuilt_line, script_line};
+ghost use Rattle.surge_cli.specs.StatusText.{script_number, text_fault_name, statement_refusal_name, script_refusal_name, text_fault_place, where_text, place_text, statement_text, refused_line, unbuilt_line, unbuilt_of, script_line};
 
 use gvdl_check::StatementFault;
 use gvdl_parser::ScriptFault;
@@ -120,17 +120,27 @@ fn unbuilt_line(alloc: Global, number: u32) -> Result<String, NoMemory>
     Ok(format!(in alloc; "surge: not built: statement {number}\n")?)
 }
 
+// The number of the statement that isn't built yet, where that is why the script is refused.
+fn unbuilt_of(refusal: ScriptRefusal) -> Option<u32>
+    ensures { result ≡ unbuilt_of refusal }
+{
+    match refusal {
+        ScriptRefusal::NotBuilt(number) => Some(number),
+        _ => None,
+    }
+}
+
 /// The line of a refused script, with its line feed. The one error is want of memory.
 pub(crate) fn script_line(alloc: Global, refusal: ScriptRefusal) -> Result<String, NoMemory>
     ensures { IfOk result (λ line. string_bytes line ≡ script_line refusal) }
 {
-    match refusal {
-        ScriptRefusal::NotBuilt(number) => unbuilt_line(alloc, number),
-        _ => refused_line(alloc, refusal),
+    match unbuilt_of(refusal) {
+        Some(number) => unbuilt_line(alloc, number),
+        None => refused_line(alloc, refusal),
     }
 }
 
-// The line of a script that is refused at a place or as a whole.
+// The line of a script with a fault, or of a script as such.
 fn refused_line(alloc: Global, refusal: ScriptRefusal) -> Result<String, NoMemory>
     ensures { IfOk result (λ line. string_bytes line ≡ refused_line refusal) }
 {
