@@ -24,12 +24,12 @@ stopped n said f stop.NoMemory h = inr refl
 
 -- a form that there isn't is the answer
 pub form_refused : (s : Script) (g : GraphData) → is_form s.form ≡ false → Agrees (plan s g) (Err fault.BadForm)
-form_refused s g no = inl (sym (ap (λ (b : Bool). form_known b >>= λ _. plan_loaded s g) no))
+form_refused s g none = inl (sym (ap (λ (b : Bool). form_known b >>= λ _. plan_loaded s g) no))
 
 -- behind a form that there is, what is said of the statements is the answer
 pub form_taken : (s : Script) (g : GraphData) (r : Result Plan CheckFault) → is_form s.form ≡ true → Agrees (plan_loaded s g) r → Agrees (plan s g) r
-form_taken s g r yes (inl e) = inl (e ∙ sym (ap (λ (b : Bool). form_known b >>= λ _. plan_loaded s g) yes))
-form_taken s g r yes (inr e) = inr e
+form_taken s g r good (inl e) = inl (e ∙ sym (ap (λ (b : Bool). form_known b >>= λ _. plan_loaded s g) good))
+form_taken s g r good (inr e) = inr e
 
 -- a value that is answered is what is said
 said_so : {A : Type 0} (said : Result A CheckFault) (a : A) → Agrees said (Ok a) → said ≡ Ok a
