@@ -24,7 +24,7 @@ stopped n said f stop.NoMemory h = inr refl
 
 -- a form that there isn't is the answer
 pub form_refused : (s : Script) (g : GraphData) → is_form s.form ≡ false → Agrees (plan s g) (Err fault.BadForm)
-form_refused s g none = inl (sym (ap (λ (b : Bool). form_known b >>= λ _. plan_loaded s g) no))
+form_refused s g bad = inl (sym (ap (λ (b : Bool). form_known b >>= λ _. plan_loaded s g) bad))
 
 -- behind a form that there is, what is said of the statements is the answer
 pub form_taken : (s : Script) (g : GraphData) (r : Result Plan CheckFault) → is_form s.form ≡ true → Agrees (plan_loaded s g) r → Agrees (plan s g) r
