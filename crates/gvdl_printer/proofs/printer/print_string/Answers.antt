@@ -5,4 +5,4 @@ use Rattle.gvdl_printer.proofs.Growing.{fresh_text}
 use Rattle.gvdl_printer.proofs.printer.print_string.Goals as goal
 
 pub returns : goal.returns
-returns c = fresh_text c.new-page.result c.string.new.page (plain (t.Str c.args.string.now) ∷ []) c.new-page.ensures c.in_ok-string.ensures
+returns c = fresh_text c.new-page.result c.string.new.self (plain (t.Str c.args.string.now) ∷ []) c.new-page.ensures c.in_ok-string.ensures
