@@ -1,5 +1,5 @@
 -- The calls of a plan are calls of its script.
-use Rattle.std.proofs.Common.{◌≡◌, ℕ, ◌+◌, Bool, List, [], ◌∷◌, ◌++◌, length, refl, ap, sym, subst, Option, None, Some, Ok, Err}
+use Rattle.std.proofs.Common.{◌≡◌, ℕ, ◌+◌, List, [], ◌∷◌, refl, ap, sym, subst, Option, Ok, Err}
 use Rattle.std.specs.Prelude.{All}
 use Rattle.std.proofs.lemmas.List.Elements.{All-nil, All-head, All-tail, All-push}
 use Rattle.graph_model.specs.GraphData.{GraphData}
@@ -28,7 +28,7 @@ use Rattle.gvdl_check.specs.declared.plan.Step.TheVariants as step
 use Rattle.gvdl_check.specs.declared.plan.Plan.{Plan}
 use Rattle.gvdl_check.specs.declared.known.Known.{Known}
 use Rattle.gvdl_check.specs.Faults.{at}
-use Rattle.gvdl_check.specs.Known.{first_names, loaded, with_step, with_single, with_collection, with_append, with_program, with_run}
+use Rattle.gvdl_check.specs.Known.{with_step, with_single, with_collection, with_append, with_program, with_run}
 use Rattle.gvdl_check.specs.Names.{NameList, new_name, base_of, collection_of, kept_of}
 use Rattle.gvdl_check.specs.Predicates.{predicate}
 use Rattle.gvdl_check.specs.Singles.{rules_at}

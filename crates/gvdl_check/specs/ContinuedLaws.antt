@@ -39,12 +39,12 @@ use Rattle.gvdl_check.specs.declared.plan.Plan.{Plan}
 use Rattle.gvdl_check.specs.declared.known.Known.{Known}
 use Rattle.gvdl_check.specs.Faults.{at}
 use Rattle.gvdl_check.specs.Names.{NameList, meaning_of, new_name, base_of, collection_of, kept_of, as_program, known_program, program_of}
-use Rattle.gvdl_check.specs.Known.{first_names, loaded, with_step, with_single, collection_plan, with_collection, collection_at, views_in, with_views, append_step, with_append, with_program, with_run}
+use Rattle.gvdl_check.specs.Known.{with_step, with_single, collection_plan, with_collection, collection_at, views_in, with_views, append_step, with_append, with_program, with_run}
 use Rattle.gvdl_check.specs.Predicates.{predicate}
 use Rattle.gvdl_check.specs.Singles.{rules_at}
 use Rattle.gvdl_check.specs.Views.{view_on, new_view, room, rule_added, is_window, window_count, window_name, windowed, window_added, slid, windows_added, body_added, item_added, items_added}
 use Rattle.gvdl_check.specs.ViewLaws.{turns_keep}
-use Rattle.gvdl_check.specs.Plans.{load, single, collection, views_appended, append, program, order_of, kept_among, keep_added, run_plan, program_meant, limits_meant, run_planned, run, limits_of, show_order, show_work, statement_added, statement_judged, plan_of, plan_from, plan_loaded, plan}
+use Rattle.gvdl_check.specs.Plans.{load, single, collection, views_appended, append, program, order_of, kept_among, keep_added, run_plan, program_meant, limits_meant, run_planned, run, limits_of, show_order, show_work, statement_added, statement_judged, plan_of, plan_from, plan}
 use Rattle.gvdl_check.specs.KnownLaws.{loaded_so}
 use Rattle.gvdl_check.specs.PlanLaws.{added_so, form_passed}
 use Rattle.gvdl_check.specs.Continued.{IsFront, IsContinued, GrowsTo, Continues}

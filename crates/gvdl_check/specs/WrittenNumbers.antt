@@ -1,6 +1,6 @@
 -- No argument of a call in a script is the number -(2^63), since no number in its text is above 2^63 - 1.
-use Rattle.std.proofs.Common.{◌≡◌, ◌≢◌, ◌∙◌, ℕ, ◌<◌, ◌^◌, ℤ, pos, negsuc, neg_ℤ, List, [], ◌∷◌, ◌++◌, length, refl, sym, ap, subst, inl, inr, arith}
-use Rattle.std.specs.Prelude.{All, ◌⊎◌}
+use Rattle.std.proofs.Common.{◌≡◌, ◌≢◌, ◌∙◌, ℕ, ◌<◌, ◌^◌, pos, neg_ℤ, List, [], ◌∷◌, ◌++◌, sym, subst, inl, inr, arith}
+use Rattle.std.specs.Prelude.{All}
 use Rattle.std.proofs.lemmas.Int.{ints}
 use Rattle.std.proofs.lemmas.List.Elements.{All-nil, All-cons}
 use Rattle.phrase_theory.specs.Phrases.{◌>>◌, word, many, separated}
@@ -17,7 +17,7 @@ use Rattle.gvdl_tree.specs.declared.script.Call.{Call}
 use Rattle.gvdl_tree.specs.declared.script.Script.{Script}
 use Rattle.gvdl_tree.specs.declared.script.Statement.{Statement}
 use Rattle.gvdl_parser.specs.Terminals.{int}
-use Rattle.gvdl_parser.specs.Statements.{number_arg, prop_arg, arg_phrase, listed_behind, parentheses, listed, call, behind, part, collection, single, made, create, program, run, append, show_order, show_work, shown, show, statement_phrase, script, show_tree, insert, remove, aggregate, second_form, script_behind}
+use Rattle.gvdl_parser.specs.Statements.{number_arg, prop_arg, arg_phrase, listed_behind, parentheses, listed, call, collection, single, made, create, program, run, append, show_order, show_work, shown, show, statement_phrase, script, show_tree, insert, remove, aggregate, second_form, script_behind}
 use Rattle.vertex_lang.specs.Values.{lowest_number}
 use Rattle.gvdl_programs.specs.Calls.{HasNoLowest}
 use Rattle.gvdl_check.specs.Written.{IsWritten}

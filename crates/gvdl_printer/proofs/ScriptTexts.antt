@@ -1,12 +1,11 @@
 -- What is written of a script is that script, in no more tokens and with no more levels.
-use Rattle.std.proofs.Common.{◌∙◌, ℕ, List, [], ◌∷◌, ◌++◌, Option, refl, sym, ap}
+use Rattle.std.proofs.Common.{◌∙◌, ℕ, List, [], ◌∷◌, ◌++◌, refl, sym, ap}
 use Rattle.std.specs.List.{flat_map}
 use Rattle.std.proofs.lemmas.List.{append-nil}
 use Rattle.gvdl_tokens.specs.declared.token.Token.{Token}
 use Rattle.gvdl_tokens.specs.declared.token.Token.TheVariants as t
 use Rattle.gvdl_tokens.specs.declared.token.Sign.TheVariants as s
 use Rattle.gvdl_tokens.specs.declared.word.Word.TheVariants as w
-use Rattle.gvdl_tree.specs.declared.script.Statement.{Statement}
 use Rattle.gvdl_parser.specs.Statements.{load, form_part, script_behind, script}
 use Rattle.gvdl_printer.specs.Canonical.{form_tokens, canonical_tokens}
 use Rattle.gvdl_printer.proofs.Better.{Writes, named, pure_is, word_is, step, many_is}

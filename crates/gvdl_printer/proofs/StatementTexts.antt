@@ -9,7 +9,6 @@ use Rattle.gvdl_tokens.specs.declared.word.Word.TheVariants as w
 use Rattle.gvdl_tokens.specs.Printing.{IsPrintable}
 use Rattle.gvdl_tokens.specs.Spelling.{word_spelling}
 use Rattle.gvdl_tree.specs.declared.script.Arg.{Arg}
-use Rattle.gvdl_tree.specs.declared.script.Arg.TheVariants as arg
 use Rattle.gvdl_tree.specs.declared.script.Call.{Call}
 use Rattle.gvdl_tree.specs.declared.script.Item.{Item}
 use Rattle.gvdl_tree.specs.declared.script.ItemBody.{ItemBody}
@@ -24,7 +23,7 @@ use Rattle.phrase_theory.specs.Phrases.{one, word, pure, Then, separated, option
 use Rattle.gvdl_parser.specs.Terminals.{along_token, gather_token, within_token}
 use Rattle.gvdl_parser.specs.Statements.{behind, part, listed_behind, parentheses, listed, window, rule, item_body, item, items, collection, single, made, create, append, show_order, show_work, shown, show, number_arg, prop_arg, arg_phrase, call, rounds_word, split_none, split_every, split_auto, split_word, order_part, split_part, keep_part, unphased, phased, run_options, run, program, show_tree, insert, remove, sum_part, aggregate, second_form, statement_phrase}
 use Rattle.gvdl_printer.specs.Layout.{Piece, tokens, plain, sign, word as word_piece}
-use Rattle.gvdl_printer.specs.Canonical.{int_pieces, predicate_pieces, expression_pieces, joined, in_call, arg_pieces, call_pieces, body_pieces, item_pieces, items_pieces, order_pieces, split_pieces, keep_pieces, phases_pieces, options_pieces, sum_pieces, statement_pieces}
+use Rattle.gvdl_printer.specs.Canonical.{int_pieces, predicate_pieces, expression_pieces, joined, in_call, arg_pieces, call_pieces, body_pieces, item_pieces, items_pieces, order_pieces, split_pieces, keep_pieces, options_pieces, sum_pieces, statement_pieces}
 use Rattle.gvdl_printer.proofs.NameTests.{shaped_utf8}
 use Rattle.gvdl_printer.proofs.Better.{AreFewer, IsBetter, Writes, named, pure_is, word_is, one_is, step, left, right}
 use Rattle.gvdl_printer.proofs.Ladder.{tokens-append}

@@ -1,10 +1,9 @@
 use Rattle.std.proofs.Common.{◌≡◌, ◌++◌, ◌∷◌, [], List, append_assoc}
 use Rattle.gvdl_tokens.specs.declared.token.Token.TheVariants as token
-use Rattle.gvdl_tokens.specs.declared.token.Sign.TheVariants as s
 use Rattle.gvdl_tokens.specs.declared.word.Word.TheVariants as w
 use Rattle.gvdl_tree.specs.declared.script.Statement.TheVariants as statement
 use Rattle.gvdl_parser.specs.Terminals.{within_token}
-use Rattle.gvdl_printer.specs.Layout.{Piece, plain, word, sign}
+use Rattle.gvdl_printer.specs.Layout.{Piece, plain, word}
 use Rattle.gvdl_printer.specs.Canonical.{call_pieces, options_pieces, statement_pieces}
 use Rattle.gvdl_printer.proofs.Growing.{then_more, ended}
 use Rattle.gvdl_printer.proofs.run.run.Goals as goal
