@@ -29,7 +29,7 @@ use Rattle.gvdl_parser.specs.Kinds.{kind_number, kind_at, number_at, comes}
 use Rattle.gvdl_parser.specs.Terminals.{opens, keyword, mark, int, prop, along_token, gather_token, order_token}
 use Rattle.gvdl_parser.specs.Predicates.{predicate_of, conjunction_of, negation, negated, enclosed, atom, operand_phrase, number_operand, text_operand, truth_operand, source_operand, target_operand, edge_operand, after_predicate}
 use Rattle.gvdl_parser.specs.Expressions.{expression}
-use Rattle.gvdl_parser.specs.Statements.{behind, part, listed_behind, listed, load, window, rule, item_body, item, items, collection, single, made, create, append, show_order, shown, show, number_arg, prop_arg, arg_phrase, call, rounds_word, split_word, order_part, split_part, keep_part, unphased, phased, run_options, run, program, insert, remove, sum_part, aggregate, second_form, statement_phrase, form_part, script_behind, script, after_items, after_order, after_split, after_form, after_script}
+use Rattle.gvdl_parser.specs.Statements.{behind, part, listed_behind, listed, load, window, rule, item_body, item, items, collection, single, made, create, append, show_order, shown, show, number_arg, prop_arg, arg_phrase, call, rounds_word, split_word, order_part, split_part, keep_part, unphased, run_options, run, program, insert, remove, sum_part, aggregate, second_form, statement_phrase, form_part, script_behind, script, after_items, after_order, after_split, after_form, after_script}
 use Rattle.gvdl_parser.proofs.Nexts.{Clear, clear_at, clearing}
 use Rattle.gvdl_parser.proofs.Having.{phrases, int_has, prop_has, predicate_has}
 use Rattle.gvdl_parser.proofs.PredicateLaws.{predicate_grows, clear_truth}

@@ -1,4 +1,4 @@
-use Rattle.std.proofs.Common.{refl, sym, ap, rules, true, false, Some, ◌≡◌, ◌≢◌}
+use Rattle.std.proofs.Common.{refl, ap, rules, true, false, Some, ◌≡◌, ◌≢◌}
 use Rattle.phrase_theory.specs.Reading.{next, alone}
 use Rattle.phrase_theory.specs.ChoiceLaws.{left_reads, right_reads, avoids_then, avoids_word}
 use Rattle.gvdl_parser.specs.Kinds.{comes}
