@@ -30,6 +30,7 @@ from reading import told
 
 OF_TEXT = re.compile(r"surge: script: line (\d+) column (\d+): (\w+)")
 OF_STATEMENT = re.compile(r"surge: script: statement (\d+): (\w+)")
+NOT_BUILT = re.compile(r"surge: not built: statement (\d+)")
 OF_DATA = re.compile(r"surge: data: (nodes|edges) record (\d+) column (\d+): (\w+)")
 OF_SCRIPT = re.compile(r"surge: script: (\w+)")
 ABSENT = re.compile(r"surge: absent: (script|nodes|edges)")
@@ -176,8 +177,10 @@ def reach_of(path, names):
     return found
 
 
-def tell_size(fault, path):
-    if fault == "TooLarge":
+def tell_whole(fault, path):
+    if fault == "BadForm":
+        print("The language has the forms 1 and 2: `form 2;`, or no form, which is form 1.")
+    elif fault == "TooLarge":
         print(f"The script {path} has more than 1,048,576 bytes (2^20).")
     else:
         with open(path, "rb") as file:
@@ -213,7 +216,7 @@ def explain(program, path):
         return False
     print(answer)
     of_text, of_statement, of_data = OF_TEXT.fullmatch(answer), OF_STATEMENT.fullmatch(answer), OF_DATA.fullmatch(answer)
-    of_script, absent = OF_SCRIPT.fullmatch(answer), ABSENT.fullmatch(answer)
+    of_script, absent, not_built = OF_SCRIPT.fullmatch(answer), ABSENT.fullmatch(answer), NOT_BUILT.fullmatch(answer)
     if of_text:
         tell_script(path, text, script_faults.of_text(text, of_text[3], int(of_text[1]), int(of_text[2])))
     elif of_statement:
@@ -221,10 +224,14 @@ def explain(program, path):
         finding = script_faults.of_statement(text, of_statement[2], int(of_statement[1]), nodes, edges)
         if finding:
             tell_script(path, text, finding)
+    elif not_built:
+        finding = script_faults.not_built(text, int(not_built[1]))
+        if finding:
+            tell_script(path, text, finding)
     elif of_data:
         tell_data(data_faults.of_data(of_data[1], int(of_data[2]), int(of_data[3]), of_data[4], script.nodes, script.edges))
     elif of_script:
-        tell_size(of_script[1], path)
+        tell_whole(of_script[1], path)
     elif absent:
         tell_absent(absent[1], path, script)
     elif answer == "surge: read fault":

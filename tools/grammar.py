@@ -3,6 +3,7 @@
 import re
 
 GRAMMAR = """
+form = "form" number ";"
 load = "load" "graph" name "nodes" string "edges" string ";"
 create = "create" "view" ( collection | single ) ";"
 single = name "on" name "edges" "where" pred
@@ -13,12 +14,16 @@ int = [ "-" ] number
 prop = name | quoted
 program = "program" name [ "(" [ name { "," name } ] ")" ] "{" "along" ( "out" | "in" | "both" ) ";" "start" expr ";"
           "send" expr ";" "gather" ( "min" | "max" | "sum" | "count" ) ";" "update" expr ";" "}"
-run = "run" call "on" name ( "within" | "for" ) number ( "rounds" | "round" ) [ "order" ( "greedy" | "declared" ) ]
+run = "run" call "on" name ( "within" | "for" ) number ( "rounds" | "round" ) [ "order" ( "greedy" | "declared" | "tree" ) ]
       [ "split" ( "none" | "every" number | "auto" ) ] [ "keep" "as" name ] ";"
+    | "run" call "on" name "within" number ( "rounds" | "round" ) "phases" number ";"
 call = name [ "(" [ arg { "," arg } ] ")" ]
 arg = int | prop
 append = "append" "to" name item { "," item } ";"
-show = "show" ( "order" name | "work" name ) ";"
+show = "show" ( "order" name | "work" name | "tree" name ) ";"
+insert = "insert" "edges" string ";"
+remove = "remove" "edges" "where" pred ";"
+aggregate = "aggregate" name "group" "by" prop [ "sum" prop ] ";"
 pred = conj { "or" conj }
 conj = neg { "and" neg }
 neg = "not" neg | "(" pred ")" | atom
@@ -34,7 +39,7 @@ product = unary { ( "*" | "/" ) unary }
 unary = "-" unary | primary
 primary = number | "none" | "id" | "start" | "value" | "gathered" | "count" | "outdeg" | "edge" "." prop | "node" "." prop
         | name | ( "min" | "max" ) "(" expr "," expr ")" | "(" expr ")"
-statement = create | program | run | append | show
+statement = create | program | run | append | show | insert | remove | aggregate
 """
 
 TERMINALS = ("name", "number", "string", "quoted")

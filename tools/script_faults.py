@@ -33,6 +33,8 @@ FORMS = {
     "collection": "create view collection NAME on BASE [NAME: PREDICATE], [NAME: window PROPERTY from N to N width N step N];",
     "program": "program NAME { along out; start ..; send ..; gather min; update ..; }",
     "run": "run PROGRAM on COLLECTION within N rounds;",
+    "insert": "insert edges 'FILE';",
+    "remove": "remove edges where PREDICATE;",
 }
 
 
@@ -74,8 +76,7 @@ def of_text(text, fault, line, column):
         return at(token, "More than 64 brackets, `not`, `if` and minus signs are open here: a view on a view, or two views, take fewer.")
     begun = begin_of(tokens, index)
     before = tokens[begun:index]
-    start = "load" if begun == 0 else "statement"
-    wanted = grammar.expected(before, start) if len(before) < 5000 else None
+    wanted = wanted_at(before, tokens[:begun]) if len(before) < 5000 else None
     told = hints(tokens, index, before, wanted or set(), begun)
     if wanted and not any(hint.startswith("Wanted") for hint in told):
         told.insert(0, f"Wanted here: {grammar.said(wanted)}.")
@@ -84,6 +85,13 @@ def of_text(text, fault, line, column):
         end = tokens[-1].end if tokens else 0
         return Finding(end, end, "The script ends here.", *told)
     return at(token, *told)
+
+
+def wanted_at(before, above):
+    """What may stand behind these tokens of a statement, which has these above it: a script begins with its form or its load."""
+    starts = ("form", "load") if not above else ("load",) if above[0].text == "form" and len(above) == 3 else ("statement",)
+    wanted = [one for one in (grammar.expected(before, start) for start in starts) if one is not None]
+    return set().union(*wanted) if wanted else None
 
 
 def begin_of(tokens, index):
@@ -112,7 +120,7 @@ def hints(tokens, index, before, wanted, begun):
 def has_predicate(before):
     """Whether a statement's text up to here is in a predicate."""
     words = [token.text for token in before]
-    return words[:1] in (["create"], ["append"]) and ("where" in words or ":" in words) and "window" not in words[-6:]
+    return words[:1] in (["create"], ["append"], ["remove"]) and ("where" in words or ":" in words) and "window" not in words[-6:]
 
 
 def of_signs(token, last, behind, touches, before, wanted):
@@ -275,7 +283,7 @@ def of_numbers(token, last, behind, touches, before, wanted):
 
 
 def starts(text):
-    return text in ("load", "create", "program", "run", "append", "show")
+    return text in ("form", "load", "create", "program", "run", "append", "show", "insert", "remove", "aggregate")
 
 
 def of_statements(token, last, behind, touches, before, wanted):
@@ -288,7 +296,9 @@ def of_statements(token, last, behind, touches, before, wanted):
         return ["No `;` stands here: a program ends with `}`." if last.text == "}" else "One `;` ends a statement."]
     words = [one.text for one in before]
     if token.text == "where" and '"edges"' in wanted:
-        found.append(f"The word `edges` is missing: {FORMS['view']}")
+        found.append(f"The word `edges` is missing: {FORMS['remove' if words[:1] == ['remove'] else 'view']}")
+    if words[:1] == ["insert"] and token.kind == "string" and '"edges"' in wanted:
+        found.append(f"The word `edges` is missing: {FORMS['insert']}")
     if token.text == "where" and '"["' in wanted:
         found.append(f"A collection has items in brackets: {FORMS['collection']}")
     if token.text == "[" and '"edges"' in wanted:
@@ -303,6 +313,10 @@ def of_statements(token, last, behind, touches, before, wanted):
         found.append("A script begins with its load: load graph NAME nodes 'nodes.csv' edges 'edges.csv';")
     if not before and token.text == "load" and '"run"' in wanted:
         found.append("A script loads one graph.")
+    if not before and token.text == "form" and '"form"' not in wanted:
+        found.append("The form of a script stands once, before its load.")
+    if words[:1] == ["run"] and token.text == "phases":
+        found.append("Phases stand right behind the rounds of a run that goes on `within` them, without an order, a split or a name.")
     return found
 
 
@@ -357,11 +371,25 @@ def parameters_of(statement):
     return [token for token in statement[2:opened] if token.is_name]
 
 
+def numbered(text):
+    """The statements that `surge` numbers, from the load on: a form is none."""
+    statements = statements_of(tokens_of(text.text))
+    return statements[1:] if statements and statements[0][0].text == "form" else statements
+
+
+def not_built(text, number):
+    """The finding of a statement that `surge` doesn't execute yet."""
+    statements = numbered(text)
+    return at(statements[number - 1][0], "What only form 2 has is read, but it is not executed yet.") if number <= len(statements) else None
+
+
 def of_statement(text, fault, number, nodes, edges):
     """The finding of a fault that `surge` tells with a statement: nodes and edges are the kinds of the columns, by name."""
-    statements = statements_of(tokens_of(text.text))
+    statements = numbered(text)
     if number > len(statements):
         return None
+    if fault == "NeedsForm":
+        return at(statements[number - 1][0], "Only form 2 of the language has this statement: such a script begins with `form 2;`, before its load.")
     known = Known()
     for statement in statements[: number - 1]:
         known.take(statement)

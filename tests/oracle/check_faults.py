@@ -2,7 +2,7 @@
 
 from collections import namedtuple
 
-from script import Append, Collection, Program, Rule, Run, ShowOrder, ShowWork, View
+from script import Aggregate, Append, Collection, Insert, Program, Remove, Rule, Run, ShowOrder, ShowTree, ShowWork, View
 from tokens import MOST
 
 Fault = namedtuple("Fault", "kind statement")
@@ -31,7 +31,8 @@ def want(holds, kind):
 class Check:
     """What is known behind the statements so far. node_kinds and edge_kinds give the kind of each property."""
 
-    def __init__(self, node_kinds, edge_kinds):
+    def __init__(self, form, node_kinds, edge_kinds):
+        self.form = form
         self.kinds = {"edge": edge_kinds, "src": node_kinds, "dst": node_kinds, "node": node_kinds}
         # (each name with what it stands for: a call of a program wants these arguments, a collection has these views)
         self.programs = dict(BUILT_IN)
@@ -48,6 +49,9 @@ class Check:
         self.bases.add(name)
 
     def statement(self, it):
+        if needs_second(it):
+            want(self.form == 2, "NeedsForm")
+            want(False, "NotBuilt")
         if isinstance(it, View):
             self.want_free(it.name)
             want(it.base in self.bases, "UnknownName")
@@ -179,9 +183,18 @@ def parts_of(tree):
     return tree[1:] if kind in ("min", "max") else []
 
 
+def needs_second(it):
+    """Whether only form 2 has the statement."""
+    if isinstance(it, Run):
+        return it.order == "tree" or it.phases is not None
+    return isinstance(it, (ShowTree, Insert, Remove, Aggregate))
+
+
 def first_fault(script, node_kinds, edge_kinds):
-    """The first fault, or None. The load is statement 1."""
-    check = Check(node_kinds, edge_kinds)
+    """The first fault, or None. The load is statement 1; a bad form is the fault of no statement, and so of statement 0."""
+    if script.form not in (None, 1, 2):
+        return Fault("BadForm", 0)
+    check = Check(script.form, node_kinds, edge_kinds)
     number = 1
     try:
         check.load(script.graph)

@@ -130,7 +130,10 @@ def judged(words, folder):
             loaded = read_data(script, room)
     fault = check_faults.first_fault(script, loaded.node_kinds, loaded.edge_kinds)
     if fault:
-        raise Refused(5, f"script: statement {fault.statement}: {fault.kind}")
+        if fault.kind == "NotBuilt":
+            raise Refused(9, f"not built: statement {fault.statement}")
+        place = f"statement {fault.statement}: " if fault.statement else ""
+        raise Refused(5, f"script: {place}{fault.kind}")
     return asked, script, loaded
 
 

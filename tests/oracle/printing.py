@@ -1,6 +1,6 @@
 """The canonical text of a script (docs/LANGUAGE.md, "Canonical text")."""
 
-from script import Append, Collection, Program, Rule, Run, ShowOrder, View
+from script import Aggregate, Append, Collection, Insert, Program, Remove, Rule, Run, ShowOrder, ShowWork, View
 from tokens import is_name
 
 # How tightly each form binds; a part stands in parentheses where its place wants more.
@@ -92,6 +92,8 @@ def item(tree):
 
 def run(tree):
     text = f"run {call(tree.call)} on {tree.target} {'within' if tree.within else 'for'} {tree.rounds} rounds"
+    if tree.phases is not None:
+        text += f" phases {tree.phases}"
     if tree.order:
         text += f" order {tree.order}"
     if tree.split is not None:
@@ -118,10 +120,17 @@ def statement(tree):
         return run(tree) + ";"
     if isinstance(tree, Append):
         return f"append to {tree.target} {', '.join(map(item, tree.items))};"
-    return f"show {'order' if isinstance(tree, ShowOrder) else 'work'} {tree.name};"
+    if isinstance(tree, Insert):
+        return f"insert edges {string(tree.file)};"
+    if isinstance(tree, Remove):
+        return f"remove edges where {predicate(tree.rule)};"
+    if isinstance(tree, Aggregate):
+        return f"aggregate {tree.target} group by {prop(tree.by)}" + (f" sum {prop(tree.sum)};" if tree.sum is not None else ";")
+    return f"show {'order' if isinstance(tree, ShowOrder) else 'work' if isinstance(tree, ShowWork) else 'tree'} {tree.name};"
 
 
 def canonical(script):
     """The text, one statement a line."""
     load = f"load graph {script.graph} nodes {string(script.nodes)} edges {string(script.edges)};"
-    return "".join(line + "\n" for line in [load, *map(statement, script.statements)])
+    form = [] if script.form is None else [f"form {script.form};"]
+    return "".join(line + "\n" for line in [*form, load, *map(statement, script.statements)])

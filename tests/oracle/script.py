@@ -11,17 +11,21 @@ from collections import namedtuple
 
 from tokens import NotAScript, tokens_of
 
-Script = namedtuple("Script", "graph nodes edges statements")
+Script = namedtuple("Script", "form graph nodes edges statements")
 View = namedtuple("View", "name base rule")
 Collection = namedtuple("Collection", "name base items")
 Rule = namedtuple("Rule", "name rule")
 Window = namedtuple("Window", "name property first last width step")
 Program = namedtuple("Program", "name parameters along start send gather update")
-Run = namedtuple("Run", "call target within rounds order split keep")
+Run = namedtuple("Run", "call target within rounds order split keep phases")
 Call = namedtuple("Call", "name arguments")
 Append = namedtuple("Append", "target items")
 ShowOrder = namedtuple("ShowOrder", "name")
 ShowWork = namedtuple("ShowWork", "name")
+ShowTree = namedtuple("ShowTree", "name")
+Insert = namedtuple("Insert", "file")
+Remove = namedtuple("Remove", "rule")
+Aggregate = namedtuple("Aggregate", "target by sum")
 
 SIGNS = ("=", "!=", "<", "<=", ">", ">=")
 WORDS = ("id", "start", "value", "gathered", "count", "outdeg")
@@ -95,6 +99,10 @@ class Reader:
     # Statements
 
     def script(self):
+        form = None
+        if self.taken("form"):
+            form = self.number()
+            self.want(";")
         self.want("load")
         self.want("graph")
         graph = self.name()
@@ -106,16 +114,19 @@ class Reader:
         statements = []
         while self.peek()[0] != "end":
             statements.append(self.statement())
-        return Script(graph, nodes, edges, statements)
+        return Script(form, graph, nodes, edges, statements)
 
     def statement(self):
-        word = self.want("create", "program", "run", "append", "show")
+        word = self.want("create", "program", "run", "append", "show", "insert", "remove", "aggregate")
         made = {
             "create": self.create,
             "program": self.program,
             "run": self.run,
             "append": self.append,
             "show": self.show,
+            "insert": self.insert,
+            "remove": self.remove,
+            "aggregate": self.aggregate,
         }[word]()
         if word != "program":
             self.want(";")
@@ -196,13 +207,15 @@ class Reader:
         within = self.want("within", "for") == "within"
         rounds = self.number()
         self.want("rounds", "round")
-        order = self.want("greedy", "declared") if self.taken("order") else None
+        if within and self.taken("phases"):
+            return Run(call, target, within, rounds, None, None, None, self.number())
+        order = self.want("greedy", "declared", "tree") if self.taken("order") else None
         split = self.split() if self.taken("split") else None
         keep = None
         if self.taken("keep"):
             self.want("as")
             keep = self.name()
-        return Run(call, target, within, rounds, order, split, keep)
+        return Run(call, target, within, rounds, order, split, keep, None)
 
     def split(self):
         word = self.want("none", "every", "auto")
@@ -214,9 +227,24 @@ class Reader:
         return Append(target, self.items())
 
     def show(self):
-        word = self.want("order", "work")
-        name = self.name()
-        return ShowOrder(name) if word == "order" else ShowWork(name)
+        shown = {"order": ShowOrder, "work": ShowWork, "tree": ShowTree}[self.want("order", "work", "tree")]
+        return shown(self.name())
+
+    def insert(self):
+        self.want("edges")
+        return Insert(self.want_kind("string"))
+
+    def remove(self):
+        self.want("edges")
+        self.want("where")
+        return Remove(self.predicate())
+
+    def aggregate(self):
+        target = self.name()
+        self.want("group")
+        self.want("by")
+        by = self.property()
+        return Aggregate(target, by, self.property() if self.taken("sum") else None)
 
     # Predicates
 

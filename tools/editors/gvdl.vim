@@ -4,12 +4,12 @@ if exists('b:current_syntax')
   finish
 endif
 setlocal iskeyword=@,48-57,_,-
-syntax keyword gvdlStatement load graph nodes edges create view collection on where program run append to show order work keep as
-syntax keyword gvdlClause window from width step along out in both start send gather update within for rounds round greedy declared split none every auto
+syntax keyword gvdlStatement load graph nodes edges create view collection on where program run append to show order work keep as form insert remove tree aggregate
+syntax keyword gvdlClause window from width step along out in both start send gather update within for rounds round greedy declared split none every auto group by phases
 syntax keyword gvdlOperator and or not is absent if then else min max sum count
 syntax keyword gvdlVariable src dst id value gathered outdeg edge node
 syntax keyword gvdlConstant true false
-syntax keyword gvdlReserved form insert remove tree group by aggregate phases changes replay
+syntax keyword gvdlReserved changes replay
 syntax keyword gvdlProgram hops dist wcc pagerank
 syntax match gvdlNumber /\<\d\+\>/
 syntax region gvdlString start=/'/ skip=/''/ end=/'/

@@ -15,7 +15,7 @@ use Rattle.gvdl_tokens.specs.Spelling.{Spells, word_spelling, sign_spelling, IsW
 use Rattle.gvdl_tokens.specs.Tokens.{Lexes, byte_order_mark, unmarked}
 use Rattle.gvdl_tree.specs.declared.script.Script.{Script}
 use Rattle.gvdl_tree.specs.declared.script.Statement.{Statement}
-use Rattle.gvdl_parser.specs.Statements.{behind, create, program, run, append, show, statement_phrase, script}
+use Rattle.gvdl_parser.specs.Statements.{behind, create, program, run, append, show, statement_phrase, script, insert, remove, aggregate, second_form, script_behind}
 use Rattle.gvdl_check.specs.Written.{IsWritten}
 
 -- ---- tokens take bytes
@@ -172,19 +172,38 @@ show_long : (ts : List Token) (s : Statement) → show ts s → 1 ≤ length ts
 unfolding show
 show_long ts s h = begun (t.Word word.Show) _ ts s h
 
+insert_long : (ts : List Token) (s : Statement) → insert ts s → 1 ≤ length ts
+unfolding insert
+insert_long ts s h = begun (t.Word word.Insert) _ ts s h
+
+remove_long : (n : ℕ) (ts : List Token) (s : Statement) → remove n ts s → 1 ≤ length ts
+unfolding remove
+remove_long n ts s h = begun (t.Word word.Remove) _ ts s h
+
+aggregate_long : (ts : List Token) (s : Statement) → aggregate ts s → 1 ≤ length ts
+unfolding aggregate behind
+aggregate_long ts s h =
+    omega (arith, begun (t.Word word.Aggregate) _ h.front h.tree h.first, ap (λ (l : List Token). length l) h.split, length-append h.front h.back)
+
 either_long : {A : Type 0} (L M : List Token → A → Type 0) (ts : List Token) (a : A) → (L ts a → 1 ≤ length ts) → (M ts a → 1 ≤ length ts) → Either L M ts a → 1 ≤ length ts
 either_long L M ts a l m h = by h.which where
   by : L ts a ⊎ M ts a → 1 ≤ length ts
   by (inl x) = l x
   by (inr y) = m y
 
+second_form_long : (n : ℕ) (ts : List Token) (s : Statement) → second_form n ts s → 1 ≤ length ts
+unfolding second_form
+second_form_long n ts s h =
+    either_long insert (remove n ∣ aggregate) ts s (insert_long ts s) (either_long (remove n) aggregate ts s (remove_long n ts s) (aggregate_long ts s)) h
+
 statement_long : (n : ℕ) (ts : List Token) (s : Statement) → statement_phrase n ts s → 1 ≤ length ts
 unfolding statement_phrase
 statement_long n ts s h =
-    either_long (create n) (program n ∣ run ∣ append n ∣ show) ts s (create_long n ts s)
-    (either_long (program n) (run ∣ append n ∣ show) ts s (program_long n ts s)
-    (either_long run (append n ∣ show) ts s (run_long ts s)
-    (either_long (append n) show ts s (append_long n ts s) (show_long ts s)))) h
+    either_long (create n) (program n ∣ run ∣ append n ∣ show ∣ second_form n) ts s (create_long n ts s)
+    (either_long (program n) (run ∣ append n ∣ show ∣ second_form n) ts s (program_long n ts s)
+    (either_long run (append n ∣ show ∣ second_form n) ts s (run_long ts s)
+    (either_long (append n) (show ∣ second_form n) ts s (append_long n ts s)
+    (either_long show (second_form n) ts s (show_long ts s) (second_form_long n ts s))))) h
 
 many_few : {A : Type 0} (L : List Token → A → Type 0) → ((ts : List Token) (a : A) → L ts a → 1 ≤ length ts) → (ts : List Token) (xs : List A) → many L ts xs → length xs ≤ length ts
 many_few L long ts [] h = omega arith
@@ -192,12 +211,14 @@ many_few L long ts (a ∷ more) h =
     omega (arith, ap (λ (l : List Token). length l) h.2, length-append h.0 h.1, long h.0 a h.3, many_few L long h.1 more h.4)
 
 script_few : (n : ℕ) (ts : List Token) (s : Script) → script n ts s → length s.statements ≤ length ts
-unfolding script
+unfolding script script_behind
 script_few n ts s h =
-    let k = h.second in
+    let j = h.second in
+    let k = j.second in
     let few = many_few (statement_phrase n) (statement_long n) k.front k.tree k.first in
     let same : length s.statements ≡ length k.tree = ap (λ (x : Script). length x.statements) k.second.1 in
-    omega (arith, few, same, ap (λ (l : List Token). length l) h.split, length-append h.front h.back, ap (λ (l : List Token). length l) k.split, length-append k.front k.back)
+    let outer : length j.back ≤ length ts = omega (arith, ap (λ (l : List Token). length l) h.split, length-append h.front h.back, ap (λ (l : List Token). length l) j.split, length-append j.front j.back) in
+    omega (arith, few, same, outer, ap (λ (l : List Token). length l) k.split, length-append k.front k.back)
 
 pub few_statements : (s : Script) → IsWritten s → length s.statements < 2 ^ 31
 few_statements s w =

@@ -1,5 +1,5 @@
 -- The calls of a plan are calls of its script.
-use Rattle.std.proofs.Common.{◌≡◌, ℕ, ◌+◌, Bool, List, [], ◌∷◌, ◌++◌, length, refl, ap, sym, subst, Option, None, Some, Ok, Err}
+use Rattle.std.proofs.Common.{◌≡◌, ℕ, ◌+◌, List, [], ◌∷◌, refl, ap, sym, subst, Option, Ok, Err}
 use Rattle.std.specs.Prelude.{All}
 use Rattle.std.proofs.lemmas.List.Elements.{All-nil, All-head, All-tail, All-push}
 use Rattle.graph_model.specs.GraphData.{GraphData}
@@ -28,18 +28,20 @@ use Rattle.gvdl_check.specs.declared.plan.Step.TheVariants as step
 use Rattle.gvdl_check.specs.declared.plan.Plan.{Plan}
 use Rattle.gvdl_check.specs.declared.known.Known.{Known}
 use Rattle.gvdl_check.specs.Faults.{at}
-use Rattle.gvdl_check.specs.Known.{first_names, loaded, with_step, with_single, with_collection, with_append, with_program, with_run}
+use Rattle.gvdl_check.specs.Known.{with_step, with_single, with_collection, with_append, with_program, with_run}
 use Rattle.gvdl_check.specs.Names.{NameList, new_name, base_of, collection_of, kept_of}
 use Rattle.gvdl_check.specs.Predicates.{predicate}
 use Rattle.gvdl_check.specs.Singles.{rules_at}
 use Rattle.gvdl_check.specs.Views.{items_added}
-use Rattle.gvdl_check.specs.Plans.{load, single, collection, views_appended, append, program, order_of, keep_added, run_plan, program_meant, limits_meant, run_planned, run, limits_of, show_order, show_work, statement_added, plan_of, plan_from, plan}
-use Rattle.gvdl_check.specs.PlanLaws.{judged_at}
+use Rattle.gvdl_check.specs.Plans.{load, single, collection, views_appended, append, program, order_of, keep_added, run_plan, program_meant, limits_meant, run_planned, run, limits_of, show_order, show_work, statement_added, statement_judged, plan_of, plan_from, plan}
+use Rattle.gvdl_programs.specs.declared.refusal.Refusal.TheVariants as refusal
+use Rattle.gvdl_check.specs.KnownLaws.{loaded_so}
+use Rattle.gvdl_check.specs.PlanLaws.{judged_at, added_so, form_passed}
 
 module _ (P : Call → Type 0) where
   -- what is said of calls holds of the one in a statement, where there is one
   abbrev pub CallHolds : Statement → Type 0
-  CallHolds (statement.Run call target within number o d keep) = P call
+  CallHolds (statement.Run call target within number o d keep phases) = P call
   CallHolds _ = Unit {0}
 
   abbrev RunHolds : RunPlan → Type 0
@@ -113,24 +115,31 @@ module _ (P : Call → Type 0) where
     work_holds name =
         past (kept_of k.names name) (λ place. Ok (with_step k (step.ShowWork place))) (λ place. done (with_step k (step.ShowWork place)) refl)
 
+    refused_holds : Holds (Err refusal.NotBuilt)
+    refused_holds next e = absurd cc
+
     statement_holds : (s : Statement) → CallHolds s → Holds (statement_added g k s)
     statement_holds (statement.View name base tree) h = single_holds name base tree
     statement_holds (statement.Collection name base items) h = collection_holds name base items
     statement_holds (statement.Program name params way start send how update) h = program_holds name params way start send how update
-    statement_holds (statement.Run call target within number o d keep) h = run_holds call target (limits_of within number o d) keep h
+    statement_holds (statement.Run call target within number o d keep phases) h = run_holds call target (limits_of within number o d) keep h
     statement_holds (statement.Append target items) h = append_holds target items
     statement_holds (statement.ShowOrder name) h = order_holds name
     statement_holds (statement.ShowWork name) h = work_holds name
+    statement_holds (statement.ShowTree name) h = refused_holds
+    statement_holds (statement.Insert file) h = refused_holds
+    statement_holds (statement.Remove rule) h = refused_holds
+    statement_holds (statement.Aggregate target by sum) h = refused_holds
 
-  from_holds : (g : GraphData) (n : ℕ) (k : Known) (p : Plan) (ss : List Statement) → RunsHold k → All CallHolds ss → plan_from g n k ss ≡ Ok p → All RunHolds p.runs
-  from_holds g n k p [] held h e = subst (λ (q : Plan). All RunHolds q.runs) (same_value (plan_of k) p e) held
-  from_holds g n k p (s ∷ more) held h e =
-      let t = through (at n (statement_added g k s)) (λ next. plan_from g (n + 1) next more) p e in
-      from_holds g (n + 1) t.value p more (statement_holds g k held s (All-head CallHolds s more h) t.value (judged_at n (statement_added g k s) t.value t.first)) (All-tail CallHolds s more h) t.rest
+  from_holds : (form : Option ℕ) (g : GraphData) (n : ℕ) (k : Known) (p : Plan) (ss : List Statement) → RunsHold k → All CallHolds ss → plan_from form g n k ss ≡ Ok p → All RunHolds p.runs
+  from_holds form g n k p [] held h e = subst (λ (q : Plan). All RunHolds q.runs) (same_value (plan_of k) p e) held
+  from_holds form g n k p (s ∷ more) held h e =
+      let t = through (at n (statement_judged form g k s)) (λ next. plan_from form g (n + 1) next more) p e in
+      let added : statement_added g k s ≡ Ok t.value = added_so form g k t.value s (judged_at n (statement_judged form g k s) t.value t.first) in
+      from_holds form g (n + 1) t.value p more (statement_holds g k held s (All-head CallHolds s more h) t.value added) (All-tail CallHolds s more h) t.rest
 
   -- what holds of each call of a script holds of each call of its plan
   pub calls_hold : (s : Script) (g : GraphData) (p : Plan) → All CallHolds s.statements → plan s g ≡ Ok p → All (λ run. P run.call) p.runs
   calls_hold s g p h e =
-      let t = through (at 1 (load s.graph)) (λ k. plan_from g 2 k s.statements) p e in
-      let u = through (new_name first_names s.graph) (λ _. Ok (loaded s.graph)) t.value (judged_at 1 (load s.graph) t.value t.first) in
-      from_holds g 2 t.value p s.statements (subst RunsHold (same_value (loaded s.graph) t.value u.rest) (All-nil RunHolds)) h t.rest
+      let t = through (at 1 (load s.graph)) (λ k. plan_from s.form g 2 k s.statements) p (form_passed s g p e) in
+      from_holds s.form g 2 t.value p s.statements (subst RunsHold (loaded_so s.graph t.value (judged_at 1 (load s.graph) t.value t.first)) (All-nil RunHolds)) h t.rest

@@ -9,8 +9,9 @@ use Rattle.gvdl_check.specs.declared.plan.Plan.{Plan}
 abbrev pub IsFront : {A : Type 0} → List A → List A → Type 0
 IsFront {A} front all = (more : List A) × (all ≡ front ++ more)
 
--- the same name of the graph and the same statements, with further ones behind them
+-- the same form, the same name of the graph and the same statements, with further ones behind them
 pub record IsContinued (script longer : Script) : Type 0 where
+  pub form : longer.form ≡ script.form
   pub graph : longer.graph ≡ script.graph
   pub statements : IsFront script.statements longer.statements
 

@@ -39,12 +39,14 @@ use Rattle.gvdl_check.specs.declared.plan.Plan.{Plan}
 use Rattle.gvdl_check.specs.declared.known.Known.{Known}
 use Rattle.gvdl_check.specs.Faults.{at}
 use Rattle.gvdl_check.specs.Names.{NameList, meaning_of, new_name, base_of, collection_of, kept_of, as_program, known_program, program_of}
-use Rattle.gvdl_check.specs.Known.{first_names, loaded, with_step, with_single, collection_plan, with_collection, collection_at, views_in, with_views, append_step, with_append, with_program, with_run}
+use Rattle.gvdl_check.specs.Known.{with_step, with_single, collection_plan, with_collection, collection_at, views_in, with_views, append_step, with_append, with_program, with_run}
 use Rattle.gvdl_check.specs.Predicates.{predicate}
 use Rattle.gvdl_check.specs.Singles.{rules_at}
 use Rattle.gvdl_check.specs.Views.{view_on, new_view, room, rule_added, is_window, window_count, window_name, windowed, window_added, slid, windows_added, body_added, item_added, items_added}
 use Rattle.gvdl_check.specs.ViewLaws.{turns_keep}
-use Rattle.gvdl_check.specs.Plans.{load, single, collection, views_appended, append, program, order_of, kept_among, keep_added, run_plan, program_meant, limits_meant, run_planned, run, limits_of, show_order, show_work, statement_added, statement_added, plan_of, plan_from, plan}
+use Rattle.gvdl_check.specs.Plans.{load, single, collection, views_appended, append, program, order_of, kept_among, keep_added, run_plan, program_meant, limits_meant, run_planned, run, limits_of, show_order, show_work, statement_added, statement_judged, plan_of, plan_from, plan}
+use Rattle.gvdl_check.specs.KnownLaws.{loaded_so}
+use Rattle.gvdl_check.specs.PlanLaws.{added_so, form_passed}
 use Rattle.gvdl_check.specs.Continued.{IsFront, IsContinued, GrowsTo, Continues}
 
 -- ---- fronts
@@ -349,11 +351,15 @@ module _ (g : GraphData) (k : Known) where
   statement_extends : (next : Known) (s : Statement) → statement_added g k s ≡ Ok next → Extends g k next
   statement_extends next (statement.View name base tree) e = single_extends next name base tree e
   statement_extends next (statement.Collection name base items) e = collection_extends next name base items e
-  statement_extends next (statement.Run call target within number o d keep) e = run_extends next call target (limits_of within number o d) keep e
+  statement_extends next (statement.Run call target within number o d keep phases) e = run_extends next call target (limits_of within number o d) keep e
   statement_extends next (statement.Program name params along start send gather update) e = program_extends next name params along start send gather update e
   statement_extends next (statement.Append target items) e = append_extends next target items e
   statement_extends next (statement.ShowOrder name) e = show_order_extends next name e
   statement_extends next (statement.ShowWork name) e = show_work_extends next name e
+  statement_extends next (statement.ShowTree name) e = absurd cc
+  statement_extends next (statement.Insert file) e = absurd cc
+  statement_extends next (statement.Remove rule) e = absurd cc
+  statement_extends next (statement.Aggregate target by sum) e = absurd cc
 
 -- ---- statements one after the other
 
@@ -361,8 +367,8 @@ judged_at : {A : Type 0} (n : ℕ) (said : Judged A) (a : A) → at n said ≡ O
 judged_at n (Ok b) a e = ap Ok (same_value b a e)
 judged_at n (Err r) a e = absurd cc
 
-one_extends : (g : GraphData) (n : ℕ) (k next : Known) (s : Statement) → at n (statement_added g k s) ≡ Ok next → Extends g k next
-one_extends g n k next s e = statement_extends g k next s (judged_at n (statement_added g k s) next e)
+one_extends : (form : Option ℕ) (g : GraphData) (n : ℕ) (k next : Known) (s : Statement) → at n (statement_judged form g k s) ≡ Ok next → Extends g k next
+one_extends form g n k next s e = statement_extends g k next s (added_so form g k next s (judged_at n (statement_judged form g k s) next e))
 
 -- the plan of what is known after some statements
 record Ends (g : GraphData) (k : Known) (p : Plan) : Type 0 where
@@ -370,12 +376,12 @@ record Ends (g : GraphData) (k : Known) (p : Plan) : Type 0 where
   is : plan_of last ≡ p
   extends : Extends g k last
 
-whole_extends : (g : GraphData) (n : ℕ) (k : Known) (p : Plan) (ss : List Statement) → plan_from g n k ss ≡ Ok p → Ends g k p
-whole_extends g n k p [] e = record { last = k; is = same_value (plan_of k) p e; extends = extends_itself g k }
-whole_extends g n k p (s ∷ ss) e =
-    let t = through (at n (statement_added g k s)) (λ next. plan_from g (n + 1) next ss) p e in
-    let rest = whole_extends g (n + 1) t.value p ss t.rest in
-    record { last = rest.last; is = rest.is; extends = extends_both g k t.value rest.last (one_extends g n k t.value s t.first) rest.extends }
+whole_extends : (form : Option ℕ) (g : GraphData) (n : ℕ) (k : Known) (p : Plan) (ss : List Statement) → plan_from form g n k ss ≡ Ok p → Ends g k p
+whole_extends form g n k p [] e = record { last = k; is = same_value (plan_of k) p e; extends = extends_itself g k }
+whole_extends form g n k p (s ∷ ss) e =
+    let t = through (at n (statement_judged form g k s)) (λ next. plan_from form g (n + 1) next ss) p e in
+    let rest = whole_extends form g (n + 1) t.value p ss t.rest in
+    record { last = rest.last; is = rest.is; extends = extends_both g k t.value rest.last (one_extends form g n k t.value s t.first) rest.extends }
 
 -- two plans, of which the second goes on where the first ends
 record GoesOn (g : GraphData) (k : Known) (p q : Plan) : Type 0 where
@@ -385,17 +391,17 @@ record GoesOn (g : GraphData) (k : Known) (p q : Plan) : Type 0 where
 behind_value : {A B E : Type 0} (said : Result A E) (a : A) (f : A → Result B E) (b : B) → said ≡ Ok a → (said >>= f) ≡ Ok b → f a ≡ Ok b
 behind_value {A} {B} {E} said a f b is e = sym (ap (λ (r : Result A E). r >>= f) is) ∙ e
 
-front_extends : (g : GraphData) (n : ℕ) (k : Known) (p q : Plan) (ss more : List Statement) → plan_from g n k ss ≡ Ok p → plan_from g n k (ss ++ more) ≡ Ok q → GoesOn g k p q
-front_extends g n k p q [] more first second = record {
+front_extends : (form : Option ℕ) (g : GraphData) (n : ℕ) (k : Known) (p q : Plan) (ss more : List Statement) → plan_from form g n k ss ≡ Ok p → plan_from form g n k (ss ++ more) ≡ Ok q → GoesOn g k p q
+front_extends form g n k p q [] more first second = record {
   middle = record { last = k; is = same_value (plan_of k) p first; extends = extends_itself g k };
-  rest = whole_extends g n k q more second;
+  rest = whole_extends form g n k q more second;
 }
-front_extends g n k p q (s ∷ ss) more first second =
-    let t = through (at n (statement_added g k s)) (λ next. plan_from g (n + 1) next ss) p first in
-    let later : plan_from g (n + 1) t.value (ss ++ more) ≡ Ok q = behind_value (at n (statement_added g k s)) t.value (λ next. plan_from g (n + 1) next (ss ++ more)) q t.first second in
-    let on = front_extends g (n + 1) t.value p q ss more t.rest later in
+front_extends form g n k p q (s ∷ ss) more first second =
+    let t = through (at n (statement_judged form g k s)) (λ next. plan_from form g (n + 1) next ss) p first in
+    let later : plan_from form g (n + 1) t.value (ss ++ more) ≡ Ok q = behind_value (at n (statement_judged form g k s)) t.value (λ next. plan_from form g (n + 1) next (ss ++ more)) q t.first second in
+    let on = front_extends form g (n + 1) t.value p q ss more t.rest later in
     record {
-      middle = record { last = on.middle.last; is = on.middle.is; extends = extends_both g k t.value on.middle.last (one_extends g n k t.value s t.first) on.middle.extends };
+      middle = record { last = on.middle.last; is = on.middle.is; extends = extends_both g k t.value on.middle.last (one_extends form g n k t.value s t.first) on.middle.extends };
       rest = on.rest;
     }
 
@@ -406,20 +412,19 @@ record Loaded (g : GraphData) (p q : Plan) : Type 0 where
   runs : first.runs ≡ []
   on : GoesOn g first p q
 
-loaded_first : (g : GraphData) (graph : List ℕ) (k : Known) → load graph ≡ Ok k → k.runs ≡ []
-loaded_first g graph k e =
-    let t = through (new_name first_names graph) (λ _. Ok (loaded graph)) k e in
-    sym (ap (λ (x : Known). x.runs) (same_value (loaded graph) k t.rest))
+loaded_first : (graph : List ℕ) (k : Known) → load graph ≡ Ok k → k.runs ≡ []
+loaded_first graph k e = sym (ap (λ (x : Known). x.runs) (loaded_so graph k e))
 
 both_loaded : (g : GraphData) (s t : Script) (p q : Plan) → IsContinued s t → plan s g ≡ Ok p → plan t g ≡ Ok q → Loaded g p q
 both_loaded g s t p q more first second =
-    let l = through (at 1 (load s.graph)) (λ k. plan_from g 2 k s.statements) p first in
+    let l = through (at 1 (load s.graph)) (λ k. plan_from s.form g 2 k s.statements) p (form_passed s g p first) in
     let again : at 1 (load t.graph) ≡ Ok l.value = ap (λ (name : List ℕ). at 1 (load name)) more.graph ∙ l.first in
-    let rest : plan_from g 2 l.value t.statements ≡ Ok q = behind_value (at 1 (load t.graph)) l.value (λ k. plan_from g 2 k t.statements) q again second in
+    let behind : plan_from t.form g 2 l.value t.statements ≡ Ok q = behind_value (at 1 (load t.graph)) l.value (λ k. plan_from t.form g 2 k t.statements) q again (form_passed t g q second) in
+    let rest : plan_from s.form g 2 l.value t.statements ≡ Ok q = subst (λ (form : Option ℕ). plan_from form g 2 l.value t.statements ≡ Ok q) more.form behind in
     record {
       first = l.value;
-      runs = loaded_first g s.graph l.value (judged_at 1 (load s.graph) l.value l.first);
-      on = front_extends g 2 l.value p q s.statements more.statements.0 l.rest (subst (λ (ss : List Statement). plan_from g 2 l.value ss ≡ Ok q) more.statements.1 rest);
+      runs = loaded_first s.graph l.value (judged_at 1 (load s.graph) l.value l.first);
+      on = front_extends s.form g 2 l.value p q s.statements more.statements.0 l.rest (subst (λ (ss : List Statement). plan_from s.form g 2 l.value ss ≡ Ok q) more.statements.1 rest);
     }
 
 meant_at : (g : GraphData) (names : NameList) (runs : List RunPlan) (place : ℕ) (r : RunPlan) → All (IsMeant g names) runs → slice_get runs place ≡ Some r → IsMeant g names r

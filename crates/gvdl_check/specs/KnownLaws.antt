@@ -439,13 +439,17 @@ module _ (g : GraphData) (k : Known) (fit : KnownFits g k) where
   pub statement_grows : (next : Known) (s : Statement) → statement_added g k s ≡ Ok next → Grows g k next
   statement_grows next (statement.View name base tree) e = single_grows next name base tree e
   statement_grows next (statement.Collection name base items) e = collection_grows next name base items e
-  statement_grows next (statement.Run call target within number o d keep) e =
+  statement_grows next (statement.Run call target within number o d keep phases) e =
       run_grows next call target (limits_of within number o d) keep e
   statement_grows next (statement.Program name params along start send gather update) e =
       program_grows next name params along start send gather update e
   statement_grows next (statement.Append target items) e = append_grows next target items e
   statement_grows next (statement.ShowOrder name) e = show_order_grows next name e
   statement_grows next (statement.ShowWork name) e = show_work_grows next name e
+  statement_grows next (statement.ShowTree name) e = absurd cc
+  statement_grows next (statement.Insert file) e = absurd cc
+  statement_grows next (statement.Remove rule) e = absurd cc
+  statement_grows next (statement.Aggregate target by sum) e = absurd cc
 
 -- ---- the load
 
@@ -466,6 +470,12 @@ first_fit g =
 no_steps : StepsFit [] [] []
 no_steps = record { collections = refl; runs = refl; views = λ place. refl; each = λ n lt. absurd (omega (arith, lt)) }
 
+-- what the load gives, where it gives something
+pub loaded_so : (graph : List ℕ) (k : Known) → load graph ≡ Ok k → loaded graph ≡ k
+loaded_so graph k e =
+    let t = through (new_name first_names graph) (λ _. Ok (loaded graph)) k e in
+    same_value (loaded graph) k t.rest
+
 -- what is known after the load fits any graph, and is nothing but names
 pub record Begins (g : GraphData) (k : Known) : Type 0 where
   pub fits : KnownFits g k
@@ -474,8 +484,7 @@ pub record Begins (g : GraphData) (k : Known) : Type 0 where
 
 pub load_begins : (g : GraphData) (graph : List ℕ) (k : Known) → load graph ≡ Ok k → Begins g k
 load_begins g graph k e =
-    let t = through (new_name first_names graph) (λ _. Ok (loaded graph)) k e in
-    subst (Begins g) (same_value (loaded graph) k t.rest) (record {
+    subst (Begins g) (loaded_so graph k e) (record {
       fits = record {
         names = All-push (NameFits g 0 0) first_names (graph, meaning.Base None) (first_fit g) tt;
         singles = All-nil (RuleFits g);

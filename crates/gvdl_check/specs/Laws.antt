@@ -1,5 +1,5 @@
 -- What follows from the definition of a plan, each law as one statement, and proofs of them that the rooms above can cite.
-use Rattle.std.specs.Prelude.{◌≡◌, ℕ, length, Ok}
+use Rattle.std.specs.Prelude.{◌≡◌, length, Ok}
 use Rattle.graph_model.specs.GraphData.{GraphData}
 use Rattle.gvdl_tree.specs.declared.script.Script.{Script}
 use Rattle.gvdl_check.specs.declared.plan.Plan.{Plan}

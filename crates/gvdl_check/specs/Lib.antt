@@ -4,6 +4,8 @@ pub mod Singles
 pub mod Predicates
 pub mod Views
 pub mod Known
+pub mod Forms
+pub mod Built
 pub mod Plans
 pub mod Steps
 pub mod Fits

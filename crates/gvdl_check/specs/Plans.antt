@@ -1,7 +1,7 @@
 -- The plan of a script against a graph, or its first refusal.
 use Rattle.std.specs.Prelude.{ℕ, ◌+◌, Bool, true, false, not, ◌&&◌, ◌==◌, nat_le, nat_lt, is_some}
 use Rattle.std.specs.Prelude.{List, [], ◌∷◌, ◌++◌, length}
-use Rattle.std.specs.Prelude.{Option, None, Some, Result, Ok}
+use Rattle.std.specs.Prelude.{Option, None, Some, Result, Ok, Err}
 use Rattle.std.specs.List.{count_by}
 use Rattle.graph_model.specs.GraphData.{GraphData}
 use Rattle.gvdl_tree.specs.declared.predicate.PredTree.{PredTree}
@@ -37,6 +37,8 @@ use Rattle.gvdl_check.specs.declared.plan.Step.TheVariants as step
 use Rattle.gvdl_check.specs.declared.plan.Plan.{Plan}
 use Rattle.gvdl_check.specs.declared.known.Known.{Known}
 use Rattle.gvdl_check.specs.declared.call.Limits.{Limits}
+use Rattle.gvdl_check.specs.Forms.{form_judged, suits}
+use Rattle.gvdl_check.specs.Built.{is_built}
 use Rattle.gvdl_check.specs.Faults.{at}
 use Rattle.gvdl_check.specs.Known.{first_names, loaded, with_step, with_single, with_collection}
 use Rattle.gvdl_check.specs.Known.{views_in}
@@ -107,11 +109,12 @@ rounds_of within n = do
   expect (are_rounds n) refusal.BadRounds
   Ok (rounds_with within n)
 
--- a run without an order is greedy
+-- a run without an order is greedy (and one in the order of a tree is refused before this is asked)
 abbrev pub order_of : Option OrderWord → OrderRule
 order_of None = order.Greedy
 order_of (Some order_word.Greedy) = order.Greedy
 order_of (Some order_word.Declared) = order.Declared
+order_of (Some order_word.Tree) = order.Greedy
 
 -- into segments of a number of views, which is not 0
 abbrev pub every : ℕ → Judged SplitRule
@@ -201,24 +204,46 @@ statement_added g k (statement.View name base tree) = single g k name base tree
 statement_added g k (statement.Collection name base items) = collection g k name base items
 statement_added g k (statement.Program name params along start send gather update) =
     program g k name params along start send gather update
-statement_added g k (statement.Run call target within number o d keep) =
+statement_added g k (statement.Run call target within number o d keep phases) =
     run g k call target (limits_of within number o d) keep
 statement_added g k (statement.Append target items) = append g k target items
 statement_added g k (statement.ShowOrder name) = show_order k name
 statement_added g k (statement.ShowWork name) = show_work k name
+statement_added g k (statement.ShowTree name) = Err refusal.NotBuilt
+statement_added g k (statement.Insert file) = Err refusal.NotBuilt
+statement_added g k (statement.Remove rule) = Err refusal.NotBuilt
+statement_added g k (statement.Aggregate target by sum) = Err refusal.NotBuilt
+
+-- the same, where what is not built is told before all else
+abbrev pub statement_built : GraphData → Known → Statement → Judged Known
+statement_built g k s = do
+  expect (is_built s) refusal.NotBuilt
+  statement_added g k s
+
+-- the same, where it is judged first that the script is of a form that has the statement
+abbrev pub statement_judged : Option ℕ → GraphData → Known → Statement → Judged Known
+statement_judged form g k s = do
+  expect (suits form s) refusal.NeedsForm
+  statement_built g k s
 
 abbrev pub plan_of : Known → Plan
 plan_of k = record { collections = k.collections; runs = k.runs; steps = k.steps }
 
--- the plan after these statements, of which the first has number n
-abbrev pub plan_from : GraphData → ℕ → Known → List Statement → Result Plan CheckFault
-plan_from g n k [] = Ok (plan_of k)
-plan_from g n k (s ∷ more) = do
-  next ← at n (statement_added g k s)
-  plan_from g (n + 1) next more
+-- the plan after these statements of a script of this form, of which the first has number n
+abbrev pub plan_from : Option ℕ → GraphData → ℕ → Known → List Statement → Result Plan CheckFault
+plan_from form g n k [] = Ok (plan_of k)
+plan_from form g n k (s ∷ more) = do
+  next ← at n (statement_judged form g k s)
+  plan_from form g (n + 1) next more
 
 -- statement 1 is the load
+abbrev pub plan_loaded : Script → GraphData → Result Plan CheckFault
+plan_loaded s g = do
+  k ← at 1 (load s.graph)
+  plan_from s.form g 2 k s.statements
+
+-- the form is judged before statement 1
 abbrev pub plan : Script → GraphData → Result Plan CheckFault
 plan s g = do
-  k ← at 1 (load s.graph)
-  plan_from g 2 k s.statements
+  form_judged s.form
+  plan_loaded s g

@@ -1,6 +1,6 @@
 -- No argument of a call in a script is the number -(2^63), since no number in its text is above 2^63 - 1.
-use Rattle.std.proofs.Common.{◌≡◌, ◌≢◌, ◌∙◌, ℕ, ◌<◌, ◌^◌, ℤ, pos, negsuc, neg_ℤ, List, [], ◌∷◌, ◌++◌, length, refl, sym, ap, subst, inl, inr, arith}
-use Rattle.std.specs.Prelude.{All, ◌⊎◌}
+use Rattle.std.proofs.Common.{◌≡◌, ◌≢◌, ◌∙◌, ℕ, ◌<◌, ◌^◌, pos, neg_ℤ, List, [], ◌∷◌, ◌++◌, sym, subst, inl, inr, arith}
+use Rattle.std.specs.Prelude.{All}
 use Rattle.std.proofs.lemmas.Int.{ints}
 use Rattle.std.proofs.lemmas.List.Elements.{All-nil, All-cons}
 use Rattle.phrase_theory.specs.Phrases.{◌>>◌, word, many, separated}
@@ -17,7 +17,7 @@ use Rattle.gvdl_tree.specs.declared.script.Call.{Call}
 use Rattle.gvdl_tree.specs.declared.script.Script.{Script}
 use Rattle.gvdl_tree.specs.declared.script.Statement.{Statement}
 use Rattle.gvdl_parser.specs.Terminals.{int}
-use Rattle.gvdl_parser.specs.Statements.{number_arg, prop_arg, arg_phrase, listed_behind, parentheses, listed, call, behind, part, collection, single, made, create, program, run, append, show_order, show_work, shown, show, statement_phrase, script}
+use Rattle.gvdl_parser.specs.Statements.{number_arg, prop_arg, arg_phrase, listed_behind, parentheses, listed, call, collection, single, made, create, program, run, append, show_order, show_work, shown, show, statement_phrase, script, show_tree, insert, remove, aggregate, second_form, script_behind}
 use Rattle.vertex_lang.specs.Values.{lowest_number}
 use Rattle.gvdl_programs.specs.Calls.{HasNoLowest}
 use Rattle.gvdl_check.specs.Written.{IsWritten}
@@ -158,7 +158,7 @@ unfolding run
 run_mean ts s small h =
     let k = h.second in
     let here = call_mean k.front k.tree (front_of h.back k.front k.back k.split (back_of ts h.front h.back h.split small)) k.first in
-    subst StatementOther (sym k.second.second.second.second.second.second.second.second.second.second.1) here
+    subst StatementOther (sym k.second.second.second.second.second.second.second.1) here
 
 collection_mean : (n : ℕ) → Means (collection n) StatementOther
 unfolding collection
@@ -184,14 +184,36 @@ unfolding append
 append_mean n ts s small h = subst StatementOther (sym h.second.second.second.second.1) tt
 
 shown_mean : Means shown StatementOther
-unfolding shown show_order show_work
-shown_mean ts s small h = elim h.which [ inl x ↦ subst StatementOther (sym x.second.1) tt | inr y ↦ subst StatementOther (sym y.second.1) tt ]
+unfolding shown show_order show_work show_tree
+shown_mean ts s small h = elim h.which [
+  | inl x ↦ subst StatementOther (sym x.second.1) tt
+  | inr y ↦ elim y.which [ inl z ↦ subst StatementOther (sym z.second.1) tt | inr z ↦ subst StatementOther (sym z.second.1) tt ]
+]
 
 show_mean : Means show StatementOther
 unfolding show
 show_mean ts s small h =
     let k = h.second in
     subst StatementOther (sym k.second.1) (shown_mean k.front k.tree (front_of h.back k.front k.back k.split (back_of ts h.front h.back h.split small)) k.first)
+
+insert_mean : Means insert StatementOther
+unfolding insert
+insert_mean ts s small h = subst StatementOther (sym h.second.second.1) tt
+
+remove_mean : (n : ℕ) → Means (remove n) StatementOther
+unfolding remove
+remove_mean n ts s small h = subst StatementOther (sym h.second.second.second.second.second.1) tt
+
+aggregate_mean : Means aggregate StatementOther
+unfolding aggregate
+aggregate_mean ts s small h = subst StatementOther (sym h.second.second.second.second.second.1) tt
+
+second_form_mean : (n : ℕ) → Means (second_form n) StatementOther
+unfolding second_form
+second_form_mean n ts s small h = elim h.which [
+  | inl a ↦ insert_mean ts s small a
+  | inr b ↦ elim b.which [ inl c ↦ remove_mean n ts s small c | inr d ↦ aggregate_mean ts s small d ]
+]
 
 statement_mean : (n : ℕ) → Means (statement_phrase n) StatementOther
 unfolding statement_phrase
@@ -201,7 +223,10 @@ statement_mean n ts s small h = elim h.which [
     | inl c ↦ program_mean n ts s small c
     | inr d ↦ elim d.which [
       | inl e ↦ run_mean ts s small e
-      | inr f ↦ elim f.which [ inl i ↦ append_mean n ts s small i | inr j ↦ show_mean ts s small j ]
+      | inr f ↦ elim f.which [
+        | inl i ↦ append_mean n ts s small i
+        | inr j ↦ elim j.which [ inl l ↦ show_mean ts s small l | inr m ↦ second_form_mean n ts s small m ]
+      ]
     ]
   ]
 ]
@@ -212,11 +237,13 @@ statements_mean n ts (s ∷ more) small h =
     All-cons StatementOther s more (statement_mean n h.0 s (front_of ts h.0 h.1 h.2 small) h.3) (statements_mean n h.1 more (back_of ts h.0 h.1 h.2 small) h.4)
 
 script_mean : (n : ℕ) → Means (script n) (λ s. All StatementOther s.statements)
-unfolding script
+unfolding script script_behind
 script_mean n ts s small h =
-    let k = h.second in
+    let j = h.second in
+    let k = j.second in
+    let behind = back_of h.back j.front j.back j.split (back_of ts h.front h.back h.split small) in
     subst (λ (x : Script). All StatementOther x.statements) (sym k.second.1)
-    (statements_mean n k.front k.tree (front_of h.back k.front k.back k.split (back_of ts h.front h.back h.split small)) k.first)
+    (statements_mean n k.front k.tree (front_of j.back k.front k.back k.split behind) k.first)
 
 -- no call of a script has such an argument
 pub written_calls : (s : Script) → IsWritten s → All (CallHolds (λ c. HasNoLowest c.args)) s.statements

@@ -43,7 +43,8 @@ fn rounds_of(within: bool, number: u64) -> Result<Rounds, Stop>
     }
 }
 
-/// In which order a run takes the views: greedily, unless another order is written.
+/// In which order a run takes the views: greedily, unless another order is written (a run in the order of a tree is refused
+/// before this is asked).
 pub(crate) fn order_of(order: Option<OrderWord>) -> OrderRule
     ensures { result ≡ order_of order }
 {
@@ -51,6 +52,7 @@ pub(crate) fn order_of(order: Option<OrderWord>) -> OrderRule
         None => OrderRule::Greedy,
         Some(OrderWord::Greedy) => OrderRule::Greedy,
         Some(OrderWord::Declared) => OrderRule::Declared,
+        Some(OrderWord::Tree) => OrderRule::Greedy,
     }
 }
 

@@ -10,9 +10,11 @@
 //! what its plan holds.
 #![tactic(auto)]
 
+mod built;
 mod call;
 mod copies;
 mod fault;
+mod form;
 mod item;
 mod keep;
 mod known;

@@ -2,11 +2,12 @@
 
 ghost use Rattle.std.specs.Prelude.{◌≡◌, length, IfOk};
 ghost use Rattle.gvdl_check.specs.Faults.{Agrees};
-ghost use Rattle.gvdl_check.specs.Plans.{plan};
+ghost use Rattle.gvdl_check.specs.Plans.{plan_loaded, plan};
 ghost use Rattle.gvdl_check.specs.Fits.{PlanFits, HoldsNoLowest};
 ghost use Rattle.gvdl_check.specs.Written.{IsWritten};
 
 use crate::fault::{CheckFault, stop_at};
+use crate::form::is_form;
 use crate::known::Known;
 use crate::plan::Plan;
 use crate::statement::{add_statement, load};
@@ -21,8 +22,10 @@ use std::alloc::Global;
 ///
 /// # Errors
 ///
-/// [`CheckFault::Fault`] with the first fault of the script against the graph, exactly where it has one;
-/// [`CheckFault::NoMemory`] where a request for memory was refused.
+/// [`CheckFault::BadForm`] exactly where the script writes a form that is neither 1 nor 2, whatever its statements are; else
+/// [`CheckFault::Fault`] with the first fault of the script against the graph, and [`CheckFault::NotBuilt`] with the first
+/// statement that isn't built yet, each exactly where it comes before the other: in a statement it is judged first that
+/// the script's form has it, and then that it is built. [`CheckFault::NoMemory`] where a request for memory was refused.
 pub fn check(alloc: Global, script: &Script, graph: &Graph) -> Result<Plan, CheckFault>
     requires written { IsWritten script.now }
     ensures exact { Agrees (plan script.now graph.now) result }
@@ -33,10 +36,22 @@ pub fn check(alloc: Global, script: &Script, graph: &Graph) -> Result<Plan, Chec
     judged(alloc, script, graph)
 }
 
-// The same, statement by statement.
+// The same: first the form, and then the statements.
+#[tactic(auto, using(crate::proofs::PlanAnswers::form_refused, crate::proofs::PlanAnswers::form_taken))]
 fn judged(alloc: Global, script: &Script, graph: &Graph) -> Result<Plan, CheckFault>
     requires { IsWritten script.now }
     ensures { Agrees (plan script.now graph.now) result }
+{
+    if !is_form(script.form) {
+        return Err(CheckFault::BadForm);
+    }
+    statements_judged(alloc, script, graph)
+}
+
+// The same of a script in a form that there is, statement by statement.
+fn statements_judged(alloc: Global, script: &Script, graph: &Graph) -> Result<Plan, CheckFault>
+    requires { IsWritten script.now }
+    ensures { Agrees (plan_loaded script.now graph.now) result }
 {
     let mut known = match load(alloc, script.graph.as_str()) {
         Ok(known) => known,
@@ -45,7 +60,7 @@ fn judged(alloc: Global, script: &Script, graph: &Graph) -> Result<Plan, CheckFa
     let mut number = 1;
     for statement in script.statements.as_slice() {
         number += 1;
-        if let Err(stop) = add_statement(alloc, graph, &mut known, statement) {
+        if let Err(stop) = add_statement(alloc, script.form, graph, &mut known, statement) {
             return Err(stop_at(stop, number));
         }
     }

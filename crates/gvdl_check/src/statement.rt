@@ -6,12 +6,14 @@ ghost use Rattle.gvdl_programs.specs.Judging.{Tells, Leaves};
 ghost use Rattle.gvdl_programs.specs.Fits.{ProgramFits};
 ghost use Rattle.gvdl_check.specs.Known.{first_names};
 ghost use Rattle.gvdl_check.specs.Plans.{load, single, collection, views_appended, append, program, program_meant};
-ghost use Rattle.gvdl_check.specs.Plans.{run_planned, run, show_order, show_work, statement_added};
+ghost use Rattle.gvdl_check.specs.Plans.{run_planned, run, show_order, show_work, statement_added, statement_built, statement_judged};
 ghost use Rattle.gvdl_check.specs.Names.{program_named};
 ghost use Rattle.gvdl_check.specs.Fits.{KnownFits, IsSmall};
 
+use crate::built::is_built;
 use crate::call::{Limits, order_of};
 use crate::copies::{copied_text, copied_words};
+use crate::form::suits;
 use crate::item::add_items;
 use crate::keep::add_keep;
 use crate::known::Known;
@@ -260,9 +262,8 @@ fn add_show_work(known: &mut Known, name: &str) -> Result<(), Stop>
     Ok(())
 }
 
-/// Judges a statement over what is known, and notes what is known after it. After a refusal nothing is said of what is
-/// known.
-pub(crate) fn add_statement(
+// Judges a statement that suits the form of its script and is built, over what is known, and notes what is known after it.
+fn add_any(
     alloc: Global,
     graph: &Graph,
     known: &mut Known,
@@ -306,6 +307,7 @@ pub(crate) fn add_statement(
             order,
             split,
             keep,
+            ..
         } => {
             let limits = Limits {
                 within: *within,
@@ -320,5 +322,45 @@ pub(crate) fn add_statement(
         }
         Statement::ShowOrder { name } => add_show_order(known, name.as_str()),
         Statement::ShowWork { name } => add_show_work(known, name.as_str()),
+        Statement::ShowTree { .. }
+        | Statement::Insert { .. }
+        | Statement::Remove { .. }
+        | Statement::Aggregate { .. } => Err(Stop::Refused(Refusal::NotBuilt)),
     }
+}
+
+// Judges a statement that suits the form of its script.
+fn add_built(
+    alloc: Global,
+    graph: &Graph,
+    known: &mut Known,
+    statement: &Statement,
+) -> Result<(), Stop>
+    requires fits { KnownFits graph.now known.old }
+    requires small { IsSmall (2 ^ 32 - 1) known.old }
+    ensures { Leaves (statement_built graph.now known.old statement.now) result known.new }
+{
+    if !is_built(statement) {
+        return Err(Stop::Refused(Refusal::NotBuilt));
+    }
+    add_any(alloc, graph, known, statement)
+}
+
+/// Judges a statement of a script of this form over what is known, and notes what is known after it. After a refusal nothing
+/// is said of what is known.
+pub(crate) fn add_statement(
+    alloc: Global,
+    form: Option<u64>,
+    graph: &Graph,
+    known: &mut Known,
+    statement: &Statement,
+) -> Result<(), Stop>
+    requires fits { KnownFits graph.now known.old }
+    requires small { IsSmall (2 ^ 32 - 1) known.old }
+    ensures { Leaves (statement_judged form graph.now known.old statement.now) result known.new }
+{
+    if !suits(form, statement) {
+        return Err(Stop::Refused(Refusal::NeedsForm));
+    }
+    add_built(alloc, graph, known, statement)
 }

@@ -191,12 +191,18 @@ gather_token_one gather.Count gather.Count e = refl
 pub order_token_at : (v : OrderWord) (x : Option Token) → kind_at x ≡ kind_of (order_token v) → x ≡ Some (order_token v)
 order_token_at order.Greedy x e = word_at x _ e
 order_token_at order.Declared x e = word_at x _ e
+order_token_at order.Tree x e = word_at x _ e
 
 pub order_token_one : (v u : OrderWord) → order_token u ≡ order_token v → u ≡ v
 order_token_one order.Greedy order.Greedy e = refl
 order_token_one order.Greedy order.Declared e = absurd cc
+order_token_one order.Greedy order.Tree e = absurd cc
 order_token_one order.Declared order.Greedy e = absurd cc
 order_token_one order.Declared order.Declared e = refl
+order_token_one order.Declared order.Tree e = absurd cc
+order_token_one order.Tree order.Greedy e = absurd cc
+order_token_one order.Tree order.Declared e = absurd cc
+order_token_one order.Tree order.Tree e = refl
 
 pub within_token_at : (v : Bool) (x : Option Token) → kind_at x ≡ kind_of (within_token v) → x ≡ Some (within_token v)
 within_token_at true x e = word_at x _ e

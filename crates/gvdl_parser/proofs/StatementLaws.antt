@@ -1,5 +1,5 @@
 -- Statements: there are some, more levels give more, and what they begin with.
-use Rattle.std.proofs.Common.{◌≡◌, ◌≢◌, ℕ, zero, suc, ◌<◌, length, length-append, arith, true, false, List, [], ◌∷◌, ◌++◌, Option, Some, None, refl, sym, ap, ◌∙◌}
+use Rattle.std.proofs.Common.{◌≡◌, ◌≢◌, ℕ, zero, suc, ◌<◌, length, length-append, arith, Bool, true, false, List, [], ◌∷◌, ◌++◌, Option, Some, None, Result, Ok, Err, refl, sym, ap, ◌∙◌}
 use Rattle.std.proofs.lemmas.Bool.{eqb-true, eqb-false}
 use Rattle.std.specs.Prelude.{◌==◌}
 use Rattle.gvdl_tokens.specs.declared.token.Token.{Token}
@@ -15,18 +15,21 @@ use Rattle.gvdl_tree.specs.declared.script.OrderWord.{OrderWord}
 use Rattle.gvdl_tree.specs.declared.script.OrderWord.TheVariants as order
 use Rattle.gvdl_tree.specs.declared.script.SplitWord.{SplitWord}
 use Rattle.gvdl_tree.specs.declared.script.Statement.{Statement}
+use Rattle.gvdl_tree.specs.declared.script.Script.{Script}
+use Rattle.gvdl_parser.specs.declared.run.RunOptions.{RunOptions}
+use Rattle.phrase_theory.specs.declared.fault.Fault.{Fault}
 use Rattle.phrase_theory.specs.Phrases.{pure, one, Then, separated}
-use Rattle.phrase_theory.specs.Reading.{next, alone, HasPhrase, Finds}
-use Rattle.phrase_theory.specs.SequenceLaws.{Grows, Apart, phrase_then, phrase_word, phrase_one, phrase_pure, phrase_left, phrase_right}
+use Rattle.phrase_theory.specs.Reading.{next, alone, HasPhrase, Finds, Fails, Reads}
+use Rattle.phrase_theory.specs.SequenceLaws.{Grows, Apart, phrase_then, phrase_word, phrase_one, phrase_pure, phrase_left, phrase_right, first_fails, then_finds, then_fails}
 use Rattle.phrase_theory.specs.ChoiceLaws.{Avoids, avoids_word, avoids_then, avoids_either}
 use Rattle.phrase_theory.specs.LevelLaws.{Within, within_then, within_either, within_many, within_chained, within_same}
 use Rattle.phrase_theory.specs.ChainLaws.{IsChain, IsLoop, phrase_many, phrase_chained}
 use Rattle.phrase_theory.specs.OptionalLaws.{Skips, skips_optional, avoids_behind, apart_by, phrase_optional}
 use Rattle.gvdl_parser.specs.Kinds.{kind_number, kind_at, number_at, comes}
-use Rattle.gvdl_parser.specs.Terminals.{keyword, mark, int, prop, along_token, gather_token, order_token}
+use Rattle.gvdl_parser.specs.Terminals.{opens, keyword, mark, int, prop, along_token, gather_token, order_token}
 use Rattle.gvdl_parser.specs.Predicates.{predicate_of, conjunction_of, negation, negated, enclosed, atom, operand_phrase, number_operand, text_operand, truth_operand, source_operand, target_operand, edge_operand, after_predicate}
 use Rattle.gvdl_parser.specs.Expressions.{expression}
-use Rattle.gvdl_parser.specs.Statements.{behind, part, listed_behind, listed, load, window, rule, item_body, item, items, collection, single, made, create, append, show_order, shown, show, number_arg, prop_arg, arg_phrase, call, rounds_word, split_word, order_part, split_part, keep_part, run, program, statement_phrase, script, after_items, after_order, after_split, after_script}
+use Rattle.gvdl_parser.specs.Statements.{behind, part, listed_behind, listed, load, window, rule, item_body, item, items, collection, single, made, create, append, show_order, shown, show, number_arg, prop_arg, arg_phrase, call, rounds_word, split_word, order_part, split_part, keep_part, unphased, run_options, run, program, insert, remove, sum_part, aggregate, second_form, statement_phrase, form_part, script_behind, script, after_items, after_order, after_split, after_form, after_script}
 use Rattle.gvdl_parser.proofs.Nexts.{Clear, clear_at, clearing}
 use Rattle.gvdl_parser.proofs.Having.{phrases, int_has, prop_has, predicate_has}
 use Rattle.gvdl_parser.proofs.PredicateLaws.{predicate_grows, clear_truth}
@@ -109,6 +112,32 @@ pub keep_part_has : HasPhrase keep_part
 unfolding keep_part
 keep_part_has = phrase_optional _
 
+-- what is read behind the order of a run, and behind its split
+abbrev pub behind_order : Option OrderWord → List Token → RunOptions → Type 0
+behind_order o = Then split_part (λ d. Then keep_part (λ k. Then (mark s.Semicolon) (λ u. pure (record { order = o; split = d; keep = k; phases = None }))))
+
+abbrev pub behind_split : Option OrderWord → Option SplitWord → List Token → RunOptions → Type 0
+behind_split o d = Then keep_part (λ k. Then (mark s.Semicolon) (λ u. pure (record { order = o; split = d; keep = k; phases = None })))
+
+pub behind_split_has : (o : Option OrderWord) (d : Option SplitWord) → HasPhrase (behind_split o d)
+behind_split_has o d = search (phrases, keep_part_has) depth 12
+
+pub behind_order_has : (o : Option OrderWord) → HasPhrase (behind_order o)
+behind_order_has o = search (phrases, split_part_has, keep_part_has) depth 12
+
+pub unphased_has : HasPhrase unphased
+unfolding unphased
+unphased_has = search (phrases, order_part_has, split_part_has, keep_part_has) depth 12
+
+pub run_options_has : (within : Bool) → HasPhrase (run_options within)
+unfolding run_options
+run_options_has true = phrase_right _ _ unphased_has
+run_options_has false = unphased_has
+
+pub sum_part_has : HasPhrase sum_part
+unfolding sum_part
+sum_part_has = phrase_optional _
+
 pub show_has : HasPhrase show
 unfolding show
 show_has = search (phrases, shown_has) depth 12
@@ -119,9 +148,17 @@ arg_has = search (phrases, int_has) depth 12
 
 pub statement_has : (n : ℕ) → HasPhrase (statement_phrase n)
 unfolding statement_phrase
-statement_has n = phrase_right _ _ (phrase_right _ _ (phrase_right _ _ (phrase_right _ _ show_has)))
+statement_has n = phrase_right _ _ (phrase_right _ _ (phrase_right _ _ (phrase_right _ _ (phrase_left _ _ show_has))))
 
-pub ruleset statement_phrases = (phrases, phrase_along, phrase_gather, phrase_order, behind_has, part_has, listed_behind_has, listed_has, int_has, prop_has, predicate_has, expression_has, item_body_has, item_has, items_has, made_has, shown_has, call_has, rounds_word_has, order_part_has, split_part_has, keep_part_has, arg_has, phrase_many)
+load_has : HasPhrase load
+unfolding load
+load_has = search (phrases, behind_has) depth 20
+
+pub script_behind_has : (n : ℕ) (form : Option ℕ) → HasPhrase (script_behind n form)
+unfolding script_behind
+script_behind_has n form = phrase_then _ _ load_has (λ l. phrase_then _ _ (phrase_many _) (λ xs. phrase_pure _))
+
+pub ruleset statement_phrases = (phrases, phrase_along, phrase_gather, phrase_order, behind_has, part_has, listed_behind_has, listed_has, int_has, prop_has, predicate_has, expression_has, item_body_has, item_has, items_has, made_has, shown_has, call_has, rounds_word_has, order_part_has, split_part_has, keep_part_has, run_options_has, sum_part_has, arg_has, phrase_many)
 
 -- ---- more levels, more phrases
 
@@ -187,13 +224,25 @@ program_more : (n : ℕ) → Within (program n) (program (suc n))
 unfolding program
 program_more n = search (within, part_more) depth 30
 
+remove_more : (n : ℕ) → Within (remove n) (remove (suc n))
+unfolding remove
+remove_more n = search (within, predicate_more) depth 20
+
+second_form_more : (n : ℕ) → Within (second_form n) (second_form (suc n))
+unfolding second_form
+second_form_more n = within_either _ _ _ _ (within_same insert) (within_either _ _ _ _ (remove_more n) (within_same aggregate))
+
 pub statement_grows : Grows statement_phrase
 unfolding statement_phrase
-statement_grows n = within_either _ _ _ _ (create_more n) (within_either _ _ _ _ (program_more n) (within_either _ _ _ _ (within_same run) (within_either _ _ _ _ (append_more n) (within_same show))))
+statement_grows n = within_either _ _ _ _ (create_more n) (within_either _ _ _ _ (program_more n) (within_either _ _ _ _ (within_same run) (within_either _ _ _ _ (append_more n) (within_either _ _ _ _ (within_same show) (second_form_more n)))))
+
+script_behind_more : (n : ℕ) (form : Option ℕ) → Within (script_behind n form) (script_behind (suc n) form)
+unfolding script_behind
+script_behind_more n form = within_then _ _ _ _ (within_same load) (λ l. within_then _ _ _ _ (within_many _ _ (statement_grows n)) (λ xs. within_same _))
 
 pub script_grows : Grows script
 unfolding script
-script_grows n = within_then _ _ _ _ (within_same load) (λ l. within_then _ _ _ _ (within_many _ _ (statement_grows n)) (λ xs. within_same _))
+script_grows n = within_then _ _ _ _ (within_same form_part) (script_behind_more n)
 
 -- ---- chains
 
@@ -209,11 +258,14 @@ statement_loop = record { weaker = λ x h. refl; fresh = λ n us behind a p. ref
 -- ---- what they begin with
 
 pub statement_needs : (n : ℕ) (x : Option Token) → x ≡ None → Avoids (statement_phrase n) alone x
-unfolding statement_phrase create program behind run append show
+unfolding statement_phrase create program behind run append show second_form insert remove aggregate
 statement_needs n x e = avoids_either _ _ x alone (avoids_then _ _ x alone (none_word w.Create))
     (avoids_either _ _ x alone (avoids_then _ _ x alone (avoids_then _ _ x alone (none_word w.Program)))
     (avoids_either _ _ x alone (avoids_then _ _ x alone (none_word w.Run))
-    (avoids_either _ _ x alone (avoids_then _ _ x alone (none_word w.Append)) (avoids_then _ _ x alone (none_word w.Show)))))
+    (avoids_either _ _ x alone (avoids_then _ _ x alone (none_word w.Append))
+    (avoids_either _ _ x alone (avoids_then _ _ x alone (none_word w.Show))
+    (avoids_either _ _ x alone (avoids_then _ _ x alone (none_word w.Insert))
+    (avoids_either _ _ x alone (avoids_then _ _ x alone (none_word w.Remove)) (avoids_then _ _ x alone (avoids_then _ _ x alone (none_word w.Aggregate)))))))))
   where
     none_word : (k : Word) → Avoids (keyword k) alone x
     none_word k = avoids_word (t.Word k) x alone (λ h. absurd cc)
@@ -234,17 +286,49 @@ split_skips : (x : Option Token) → x ≢ Some (t.Word w.Split) → Skips split
 unfolding split_part
 split_skips x h = skips_optional _ x (behind_avoids w.Split split_word x h)
 
-pub order_apart : (f : Option OrderWord → Option SplitWord → Option (List ℕ) → Statement) → Apart (λ o. Then split_part (λ d. Then keep_part (λ k. Then (mark s.Semicolon) (λ u. pure (f o d k))))) after_order alone
-order_apart f = apart_by _ after_order alone at where
-  at : (a : Option OrderWord) (x : Option Token) → after_order x ≡ true → Avoids (Then split_part (λ d. Then keep_part (λ k. Then (mark s.Semicolon) (λ u. pure (f a d k))))) alone x
-  at a x h = avoids_behind _ _ x alone (split_skips x (not_other (kind.Word w.Order) x (t.Word w.Split) h refl)) (λ d. avoids_behind _ _ x alone (keep_skips x (not_other (kind.Word w.Order) x (t.Word w.Keep) h refl))
-      (λ k. avoids_then _ _ x alone (avoids_word _ x alone (not_other (kind.Word w.Order) x (t.Sign s.Semicolon) h refl))))
+order_skips : (x : Option Token) → x ≢ Some (t.Word w.Order) → Skips order_part x
+unfolding order_part
+order_skips x h = skips_optional _ x (behind_avoids w.Order (one order_token) x h)
 
-pub split_apart : (f : Option SplitWord → Option (List ℕ) → Statement) → Apart (λ d. Then keep_part (λ k. Then (mark s.Semicolon) (λ u. pure (f d k)))) after_split alone
-split_apart f = apart_by _ after_split alone at where
-  at : (a : Option SplitWord) (x : Option Token) → after_split x ≡ true → Avoids (Then keep_part (λ k. Then (mark s.Semicolon) (λ u. pure (f a k)))) alone x
-  at a x h = avoids_behind _ _ x alone (keep_skips x (not_other (kind.Word w.Split) x (t.Word w.Keep) h refl))
-      (λ k. avoids_then _ _ x alone (avoids_word _ x alone (not_other (kind.Word w.Split) x (t.Sign s.Semicolon) h refl)))
+-- what is read behind a part of the options begins with none of these
+
+split_avoids : (o : Option OrderWord) (d : Option SplitWord) (x : Option Token) → x ≢ Some (t.Word w.Keep) → x ≢ Some (t.Sign s.Semicolon) → Avoids (behind_split o d) alone x
+split_avoids o d x no_keep no_end = avoids_behind _ _ x alone (keep_skips x no_keep) (λ k. avoids_then _ _ x alone (avoids_word _ x alone no_end))
+
+order_avoids : (o : Option OrderWord) (x : Option Token) → x ≢ Some (t.Word w.Split) → x ≢ Some (t.Word w.Keep) → x ≢ Some (t.Sign s.Semicolon) → Avoids (behind_order o) alone x
+order_avoids o x no_split no_keep no_end = avoids_behind _ _ x alone (split_skips x no_split) (λ d. split_avoids o d x no_keep no_end)
+
+pub order_apart : Apart behind_order after_order alone
+order_apart = apart_by behind_order after_order alone at where
+  at : (o : Option OrderWord) (x : Option Token) → after_order x ≡ true → Avoids (behind_order o) alone x
+  at o x h = order_avoids o x (not_other (kind.Word w.Order) x (t.Word w.Split) h refl) (not_other (kind.Word w.Order) x (t.Word w.Keep) h refl) (not_other (kind.Word w.Order) x (t.Sign s.Semicolon) h refl)
+
+pub split_apart : (o : Option OrderWord) → Apart (behind_split o) after_split alone
+split_apart o = apart_by (behind_split o) after_split alone at where
+  at : (d : Option SplitWord) (x : Option Token) → after_split x ≡ true → Avoids (behind_split o d) alone x
+  at d x h = split_avoids o d x (not_other (kind.Word w.Split) x (t.Word w.Keep) h refl) (not_other (kind.Word w.Split) x (t.Sign s.Semicolon) h refl)
+
+pub unphased_avoids : (x : Option Token) → comes (kind.Word w.Phases) x ≡ true → Avoids unphased alone x
+unfolding unphased
+unphased_avoids x h = avoids_behind _ _ x alone (order_skips x (no (t.Word w.Order) refl)) (λ o. order_avoids o x (no (t.Word w.Split) refl) (no (t.Word w.Keep) refl) (no (t.Sign s.Semicolon) refl)) where
+  no : (token : Token) → (kind_number (kind.Word w.Phases) == number_at (Some token)) ≡ false → x ≢ Some token
+  no token other = not_other (kind.Word w.Phases) x token h other
+
+-- ---- behind the form
+
+form_apart : (n : ℕ) → Apart (script_behind n) after_form after_script
+unfolding script_behind load
+form_apart n = apart_by (script_behind n) after_form after_script (λ f x h. avoids_then _ _ x after_script (avoids_then _ _ x alone (avoids_word _ x alone (not_other (kind.Word w.Form) x (t.Word w.Load) h refl))))
+
+module _ {d : ℕ} {ts : List Token} where
+  pub form_stuck : {e : Fault} {rest : List Token} → Fails opens (λ n. form_part) after_form d ts e rest → Fails opens script after_script d ts e rest
+  unfolding script
+  form_stuck {e} {rest} f = first_fails (λ n. form_part) script_behind after_form after_script form_apart d ts e rest script_behind_has f
+
+  pub form_read : {form : Option ℕ} {mid : List Token} (r : Result Script Fault) (rest : List Token) → Finds (λ n. form_part) after_form d ts form mid → Reads opens (λ n. script_behind n form) after_script d mid r rest → Reads opens script after_script d ts r rest
+  unfolding script
+  form_read {form} {mid} (Ok tree) rest p q = then_finds (λ n. form_part) script_behind after_form after_script form_apart d ts form mid tree rest p q
+  form_read {form} {mid} (Err e) rest p q = then_fails (λ n. form_part) script_behind after_form after_script form_apart d ts form mid e rest (λ n us a h. h) p q
 
 negation_no_window : (n : ℕ) → Clear (negation n) alone (kind.Word w.Window)
 unfolding negation negated enclosed atom operand_phrase number_operand text_operand truth_operand source_operand target_operand edge_operand int prop

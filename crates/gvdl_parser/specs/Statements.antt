@@ -19,6 +19,7 @@ use Rattle.gvdl_tree.specs.declared.script.SplitWord.TheVariants as split
 use Rattle.gvdl_tree.specs.declared.script.Statement.{Statement}
 use Rattle.gvdl_tree.specs.declared.script.Statement.TheVariants as statement
 use Rattle.gvdl_tree.specs.declared.script.Script.{Script}
+use Rattle.gvdl_parser.specs.declared.run.RunOptions.{RunOptions}
 use Rattle.gvdl_parser.specs.Kinds.{comes}
 use Rattle.gvdl_parser.specs.Terminals.{keyword, mark, int, prop, along_token, gather_token, order_token, within_token}
 use Rattle.gvdl_parser.specs.Predicates.{predicate}
@@ -128,15 +129,18 @@ append n = do
 
 -- ---- show
 
--- show = "show" ( "order" name | "work" name ) ";"
+-- show = "show" ( "order" name | "work" name | "tree" name ) ";"
 unfoldable pub show_order : List Token → Statement → Type 0
 show_order = do name ← part w.Order (one t.Name); pure (statement.ShowOrder name)
 
 unfoldable pub show_work : List Token → Statement → Type 0
 show_work = do name ← part w.Work (one t.Name); pure (statement.ShowWork name)
 
+unfoldable pub show_tree : List Token → Statement → Type 0
+show_tree = do name ← part w.Tree (one t.Name); pure (statement.ShowTree name)
+
 unfoldable pub shown : List Token → Statement → Type 0
-shown = show_order ∣ show_work
+shown = show_order ∣ show_work ∣ show_tree
 
 unfoldable pub show : List Token → Statement → Type 0
 show = do keyword w.Show; what ← shown; pure what
@@ -186,8 +190,27 @@ split_part = optional (behind w.Split split_word)
 unfoldable pub keep_part : List Token → Option (List ℕ) → Type 0
 keep_part = optional (do keyword w.Keep; name ← behind w.As (one t.Name); pure name)
 
+-- [ "order" ( "greedy" | "declared" | "tree" ) ] [ "split" ( "none" | "every" number | "auto" ) ] [ "keep" "as" name ] ";"
+unfoldable pub unphased : List Token → RunOptions → Type 0
+unphased = do
+  o ← order_part
+  d ← split_part
+  k ← keep_part
+  mark s.Semicolon
+  pure (record { order = o; split = d; keep = k; phases = None })
+
+-- "phases" number ";"
+unfoldable pub phased : List Token → RunOptions → Type 0
+phased = do m ← part w.Phases (one t.Number); pure (record { order = None; split = None; keep = None; phases = Some m })
+
+-- what stands behind the rounds: only `within` some has phases
+unfoldable pub run_options : Bool → List Token → RunOptions → Type 0
+run_options true = phased ∣ unphased
+run_options false = unphased
+
 -- run = "run" call "on" name ( "within" | "for" ) number ( "rounds" | "round" )
---     [ "order" ( "greedy" | "declared" ) ] [ "split" ( "none" | "every" number | "auto" ) ] [ "keep" "as" name ] ";"
+--     [ "order" ( "greedy" | "declared" | "tree" ) ] [ "split" ( "none" | "every" number | "auto" ) ] [ "keep" "as" name ] ";"
+--   | "run" call "on" name "within" number ( "rounds" | "round" ) "phases" number ";"
 unfoldable pub run : List Token → Statement → Type 0
 run = do
   keyword w.Run
@@ -197,11 +220,8 @@ run = do
   within ← one within_token
   number ← one t.Number
   rounds_word
-  o ← order_part
-  d ← split_part
-  k ← keep_part
-  mark s.Semicolon
-  pure (statement.Run c target within number o d k)
+  options ← run_options within
+  pure (statement.Run c target within number options.order options.split options.keep options.phases)
 
 -- ---- program
 
@@ -220,18 +240,61 @@ program n = do
   mark s.CloseBrace
   pure (statement.Program name params a start send g update)
 
+-- ---- edges that come and go
+
+-- insert = "insert" "edges" string ";"
+unfoldable pub insert : List Token → Statement → Type 0
+insert = do keyword w.Insert; file ← part w.Edges (one t.Str); pure (statement.Insert file)
+
+-- remove = "remove" "edges" "where" pred ";"
+unfoldable pub remove : ℕ → List Token → Statement → Type 0
+remove n = do
+  keyword w.Remove
+  keyword w.Edges
+  keyword w.Where
+  p ← predicate n
+  mark s.Semicolon
+  pure (statement.Remove p)
+
+-- ---- aggregates
+
+unfoldable pub sum_part : List Token → Option (List ℕ) → Type 0
+sum_part = optional (behind w.Sum prop)
+
+-- aggregate = "aggregate" name "group" "by" prop [ "sum" prop ] ";"
+unfoldable pub aggregate : List Token → Statement → Type 0
+aggregate = do
+  target ← behind w.Aggregate (one t.Name)
+  keyword w.Group
+  by ← behind w.By prop
+  sum ← sum_part
+  mark s.Semicolon
+  pure (statement.Aggregate target by sum)
+
 -- ---- scripts
 
--- statement = create | program | run | append | show
-unfoldable pub statement_phrase : ℕ → List Token → Statement → Type 0
-statement_phrase n = create n ∣ program n ∣ run ∣ append n ∣ show
+-- the statements that only form 2 has
+unfoldable pub second_form : ℕ → List Token → Statement → Type 0
+second_form n = insert ∣ remove n ∣ aggregate
 
--- script = load { statement }, with at most this number of levels open at once
-unfoldable pub script : ℕ → List Token → Script → Type 0
-script n = do
+-- statement = create | program | run | append | show | insert | remove | aggregate
+unfoldable pub statement_phrase : ℕ → List Token → Statement → Type 0
+statement_phrase n = create n ∣ program n ∣ run ∣ append n ∣ show ∣ second_form n
+
+-- [ "form" number ";" ]
+unfoldable pub form_part : List Token → Option ℕ → Type 0
+form_part = optional (part w.Form (one t.Number))
+
+-- load { statement }, of a script in this form
+unfoldable pub script_behind : ℕ → Option ℕ → List Token → Script → Type 0
+script_behind n form = do
   loaded ← load
   statements ← many (statement_phrase n)
-  pure (record { graph = loaded.0; nodes = loaded.1; edges = loaded.2; statements = statements })
+  pure (record { form = form; graph = loaded.0; nodes = loaded.1; edges = loaded.2; statements = statements })
+
+-- script = [ "form" number ";" ] load { statement }, with at most this number of levels open at once
+unfoldable pub script : ℕ → List Token → Script → Type 0
+script n = form_part >>= script_behind n
 
 -- ---- tokens that a phrase goes on with
 
@@ -249,6 +312,12 @@ after_split x = comes (kind.Word w.Split) x
 
 abbrev pub after_keep : Option Token → Bool
 after_keep x = comes (kind.Word w.Keep) x
+
+abbrev pub after_summed : Option Token → Bool
+after_summed x = comes (kind.Word w.Sum) x
+
+abbrev pub after_form : Option Token → Bool
+after_form x = comes (kind.Word w.Form) x
 
 -- any token at all
 abbrev pub after_script : Option Token → Bool

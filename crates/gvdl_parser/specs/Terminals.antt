@@ -79,10 +79,11 @@ gather_token gather.Max = t.Word w.Max
 gather_token gather.Sum = t.Word w.Sum
 gather_token gather.Count = t.Word w.Count
 
--- "greedy" | "declared"
+-- "greedy" | "declared" | "tree"
 abbrev pub order_token : OrderWord → Token
 order_token order.Greedy = t.Word w.Greedy
 order_token order.Declared = t.Word w.Declared
+order_token order.Tree = t.Word w.Tree
 
 -- "within" | "for", of which the first is true
 abbrev pub within_token : Bool → Token

@@ -8,8 +8,10 @@
 //! reads a part has one clause, `Reads`: what was read is the only phrase there, or the fault is the first.
 #![tactic(auto)]
 
+mod aggregate;
 mod call;
 mod cursor;
+mod edits;
 mod expression;
 mod fault;
 mod leaf;

@@ -127,6 +127,7 @@ pub fn order_of(kind: Kind) -> Option<OrderWord>
     match kind {
         Kind::Word(Word::Greedy) => Some(OrderWord::Greedy),
         Kind::Word(Word::Declared) => Some(OrderWord::Declared),
+        Kind::Word(Word::Tree) => Some(OrderWord::Tree),
         _ => None,
     }
 }

@@ -4,13 +4,15 @@ ghost use Rattle.std.specs.Prelude.{◌≡◌, ℕ, [], IfOk};
 ghost use Rattle.phrase_theory.specs.Phrases.{one, many};
 ghost use Rattle.phrase_theory.specs.Reading.{alone, Reads};
 ghost use Rattle.gvdl_parser.specs.Terminals.{opens};
-ghost use Rattle.gvdl_parser.specs.Statements.{behind, load, statement_phrase, script, after_script};
+ghost use Rattle.gvdl_parser.specs.Statements.{behind, load, second_form, statement_phrase, form_part, script_behind, script, after_form, after_script};
 ghost use Rattle.gvdl_parser.specs.Parsing.{Parses};
 
+use crate::aggregate::aggregate;
 use crate::cursor::Cursor;
+use crate::edits::{insert, remove};
 use crate::program::program;
 use crate::run::{run, show};
-use crate::view::{append, create, name_behind};
+use crate::view::{append, create, name_behind, number_part};
 use gvdl_tokens::{Sign, Token, Word};
 use gvdl_tree::{Script, Statement};
 use phrase_theory::Fault;
@@ -36,6 +38,18 @@ fn load(alloc: Global, cursor: &mut Cursor<'_>) -> Result<(Text, Text, Text), Fa
     Ok((graph, nodes, edges))
 }
 
+fn second_form(alloc: Global, cursor: &mut Cursor<'_>, levels: usize) -> Result<Statement, Fault>
+    ensures { Reads opens second_form alone levels cursor.old.rest.now result cursor.new.rest.now }
+{
+    if cursor.sees_word(Word::Insert) {
+        return insert(alloc, cursor);
+    }
+    if cursor.sees_word(Word::Remove) {
+        return remove(alloc, cursor, levels);
+    }
+    aggregate(alloc, cursor)
+}
+
 fn statement(alloc: Global, cursor: &mut Cursor<'_>, levels: usize) -> Result<Statement, Fault>
     ensures { Reads opens statement_phrase alone levels cursor.old.rest.now result cursor.new.rest.now }
 {
@@ -51,7 +65,10 @@ fn statement(alloc: Global, cursor: &mut Cursor<'_>, levels: usize) -> Result<St
     if cursor.sees_word(Word::Append) {
         return append(alloc, cursor, levels);
     }
-    show(alloc, cursor)
+    if cursor.sees_word(Word::Show) {
+        return show(alloc, cursor);
+    }
+    second_form(alloc, cursor, levels)
 }
 
 fn statements(
@@ -70,19 +87,43 @@ fn statements(
     Ok(statements)
 }
 
-fn script(alloc: Global, cursor: &mut Cursor<'_>, levels: usize) -> Result<Script, Fault>
-    ensures read { Reads opens script after_script levels cursor.old.rest.now result cursor.new.rest.now }
+fn form_part(cursor: &mut Cursor<'_>) -> Result<Option<u64>, Fault>
+    ensures { (n : ℕ) → Reads opens (λ _. form_part) after_form n cursor.old.rest.now result cursor.new.rest.now }
+{
+    if !cursor.sees_word(Word::Form) {
+        return Ok(None);
+    }
+    let number = number_part(cursor, Word::Form)?;
+    Ok(Some(number))
+}
+
+fn script_behind(
+    alloc: Global,
+    cursor: &mut Cursor<'_>,
+    levels: usize,
+    form: Option<u64>,
+) -> Result<Script, Fault>
+    ensures read { Reads opens (λ n. script_behind n form) after_script levels cursor.old.rest.now result cursor.new.rest.now }
     ensures end { IfOk result (λ s. cursor.new.rest.now ≡ []) }
 {
     let loaded = load(alloc, cursor)?;
     let statements = statements(alloc, cursor, levels)?;
     let (graph, nodes, edges) = loaded;
     Ok(Script {
+        form,
         graph,
         nodes,
         edges,
         statements,
     })
+}
+
+fn script(alloc: Global, cursor: &mut Cursor<'_>, levels: usize) -> Result<Script, Fault>
+    ensures read { Reads opens script after_script levels cursor.old.rest.now result cursor.new.rest.now }
+    ensures end { IfOk result (λ s. cursor.new.rest.now ≡ []) }
+{
+    let form = form_part(cursor)?;
+    script_behind(alloc, cursor, levels, form)
 }
 
 /// Why tokens are not a script.

@@ -118,7 +118,7 @@ pub fn gather(cursor: &mut Cursor<'_>) -> Result<Gather, Fault>
     Ok(meant)
 }
 
-/// `greedy` or `declared`.
+/// `greedy`, `declared` or `tree`.
 pub fn order(cursor: &mut Cursor<'_>) -> Result<OrderWord, Fault>
     ensures { (n : ℕ) → Reads opens (λ _. one order_token) alone n cursor.old.rest.now result cursor.new.rest.now }
 {

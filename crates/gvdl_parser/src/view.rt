@@ -5,7 +5,7 @@ ghost use Rattle.phrase_theory.specs.Phrases.{one};
 ghost use Rattle.phrase_theory.specs.Reading.{alone, Reads};
 ghost use Rattle.gvdl_parser.specs.Terminals.{opens, prop};
 ghost use Rattle.gvdl_parser.specs.Predicates.{after_predicate};
-ghost use Rattle.gvdl_parser.specs.Statements.{behind, window, rule, item_body, item, items, collection, single, made, create, append, after_items};
+ghost use Rattle.gvdl_parser.specs.Statements.{behind, part, window, rule, item_body, item, items, collection, single, made, create, append, after_items};
 
 use crate::cursor::Cursor;
 use crate::predicate::predicate;
@@ -34,7 +34,18 @@ pub fn number_behind(cursor: &mut Cursor<'_>, word: Word) -> Result<u64, Fault>
     Ok(number)
 }
 
-fn prop_behind(alloc: Global, cursor: &mut Cursor<'_>, word: Word) -> Result<Text, Fault>
+/// A number behind a word, and a semicolon.
+pub fn number_part(cursor: &mut Cursor<'_>, word: Word) -> Result<u64, Fault>
+    ensures { (n : ℕ) → Reads opens (λ _. part word (one Token.Number)) alone n cursor.old.rest.now result cursor.new.rest.now }
+{
+    cursor.word(word)?;
+    let number = cursor.number()?;
+    cursor.sign(Sign::Semicolon)?;
+    Ok(number)
+}
+
+/// A property behind a word.
+pub fn prop_behind(alloc: Global, cursor: &mut Cursor<'_>, word: Word) -> Result<Text, Fault>
     ensures { (n : ℕ) → Reads opens (λ _. behind word prop) alone n cursor.old.rest.now result cursor.new.rest.now }
 {
     cursor.word(word)?;

@@ -1,5 +1,5 @@
 -- The canonical text of a script that some text is, is that script again, and no more than twice as long.
-use Rattle.std.proofs.Common.{◌≡◌, ◌∙◌, ◌+◌, ◌*◌, ◌≤◌, ◌<◌, ◌^◌, ℕ, List, [], ◌∷◌, ◌++◌, map, length, refl, sym, ap, subst, length-append, arith, Result, Ok, Err}
+use Rattle.std.proofs.Common.{◌≡◌, ◌∙◌, ◌+◌, ◌*◌, ◌≤◌, ◌<◌, ◌^◌, ℕ, List, [], ◌∷◌, ◌++◌, map, length, Option, Some, None, refl, sym, ap, subst, length-append, arith, Result, Ok, Err}
 use Rattle.std.specs.Prelude.{IfOk}
 use Rattle.surge_outside.specs.declared.no_memory.NoMemory.{NoMemory}
 use Rattle.std.specs.List.{flat_map}
@@ -15,7 +15,7 @@ use Rattle.gvdl_tree.specs.declared.script.Script.{Script}
 use Rattle.gvdl_parser.specs.Statements.{script}
 use Rattle.gvdl_parser.specs.Script.{IsScriptWith, IsScript}
 use Rattle.gvdl_printer.specs.Layout.{Piece, tokens, line}
-use Rattle.gvdl_printer.specs.Canonical.{load_pieces, statement_pieces, canonical, canonical_tokens}
+use Rattle.gvdl_printer.specs.Canonical.{load_pieces, statement_pieces, form_pieces, form_line, form_tokens, canonical, canonical_tokens}
 use Rattle.gvdl_printer.specs.Again.{IsScriptAgain, IsParsedAs}
 use Rattle.gvdl_printer.proofs.Better.{total, total-append}
 use Rattle.gvdl_printer.proofs.PrintableTokens.{tokens_printable}
@@ -28,10 +28,14 @@ unfolding Starts
 statement_starts (statement.View name base rule) = tt
 statement_starts (statement.Collection name base items) = tt
 statement_starts (statement.Program name params along start send gather update) = tt
-statement_starts (statement.Run call target within number order split keep) = tt
+statement_starts (statement.Run call target within number order split keep phases) = tt
 statement_starts (statement.Append target items) = tt
 statement_starts (statement.ShowOrder name) = tt
 statement_starts (statement.ShowWork name) = tt
+statement_starts (statement.ShowTree name) = tt
+statement_starts (statement.Insert file) = tt
+statement_starts (statement.Remove rule) = tt
+statement_starts (statement.Aggregate target by sum) = tt
 
 statements_start : (xs : List Statement) → AllStart (map statement_pieces xs)
 unfolding AllStart
@@ -42,14 +46,39 @@ load_starts : (tree : Script) → Starts (load_pieces tree)
 unfolding Starts
 load_starts tree = tt
 
-abbrev canonical_lines : Script → List (List Piece)
-canonical_lines tree = map statement_pieces tree.statements
+form_starts : (n : ℕ) → Starts (form_pieces n)
+unfolding Starts
+form_starts n = tt
 
-same_tokens : (tree : Script) → tokens (load_pieces tree) ++ flat_map tokens (canonical_lines tree) ≡ canonical_tokens tree
-same_tokens tree = ap (λ (ts : List Token). tokens (load_pieces tree) ++ ts) (flat_map-map tokens statement_pieces tree.statements)
+-- the lines by their pieces: the first one, and the others
 
-same_text : (tree : Script) → line (load_pieces tree) ++ flat_map line (canonical_lines tree) ≡ canonical tree
-same_text tree = ap (λ (bytes : List ℕ). line (load_pieces tree) ++ bytes) (flat_map-map line statement_pieces tree.statements)
+abbrev statement_lines : Script → List (List Piece)
+statement_lines tree = map statement_pieces tree.statements
+
+abbrev first_line : Option ℕ → Script → List Piece
+first_line None tree = load_pieces tree
+first_line (Some n) tree = form_pieces n
+
+abbrev other_lines : Option ℕ → Script → List (List Piece)
+other_lines None tree = statement_lines tree
+other_lines (Some n) tree = load_pieces tree ∷ statement_lines tree
+
+first_starts : (form : Option ℕ) (tree : Script) → Starts (first_line form tree)
+first_starts None tree = load_starts tree
+first_starts (Some n) tree = form_starts n
+
+others_start : (form : Option ℕ) (tree : Script) → AllStart (other_lines form tree)
+unfolding AllStart
+others_start None tree = statements_start tree.statements
+others_start (Some n) tree = (load_starts tree, statements_start tree.statements)
+
+same_tokens : (form : Option ℕ) (tree : Script) → tokens (first_line form tree) ++ flat_map tokens (other_lines form tree) ≡ form_tokens form ++ (tokens (load_pieces tree) ++ flat_map (λ x. tokens (statement_pieces x)) tree.statements)
+same_tokens None tree = ap (λ (ts : List Token). tokens (load_pieces tree) ++ ts) (flat_map-map tokens statement_pieces tree.statements)
+same_tokens (Some n) tree = ap (λ (ts : List Token). tokens (form_pieces n) ++ (tokens (load_pieces tree) ++ ts)) (flat_map-map tokens statement_pieces tree.statements)
+
+same_text : (form : Option ℕ) (tree : Script) → line (first_line form tree) ++ flat_map line (other_lines form tree) ≡ form_line form ++ (line (load_pieces tree) ++ flat_map (λ x. line (statement_pieces x)) tree.statements)
+same_text None tree = ap (λ (bytes : List ℕ). line (load_pieces tree) ++ bytes) (flat_map-map line statement_pieces tree.statements)
+same_text (Some n) tree = ap (λ (bytes : List ℕ). line (form_pieces n) ++ (line (load_pieces tree) ++ bytes)) (flat_map-map line statement_pieces tree.statements)
 
 pub fewest : (n : ℕ) (ts : List Token) (tree : Script) → script n ts tree → length (canonical_tokens tree) ≤ length ts
 fewest n ts tree h =
@@ -57,6 +86,10 @@ fewest n ts tree h =
     omega (arith, le, total-ones (canonical_tokens tree), total-ones ts)
 
 -- ---- how long it is
+
+form_within : (form : Option ℕ) → length (form_line form) ≤ total size (form_tokens form)
+form_within None = omega arith
+form_within (Some n) = line_within (form_pieces n) (form_starts n)
 
 canonical_within : (tree : Script) → length (canonical tree) ≤ total size (canonical_tokens tree)
 canonical_within tree =
@@ -66,7 +99,10 @@ canonical_within tree =
     let others : length text ≤ total size ts = lines_within statement_pieces statement_starts tree.statements in
     let a : length (line (load_pieces tree) ++ text) ≡ length (line (load_pieces tree)) + length text = length-append (line (load_pieces tree)) text in
     let b : total size (tokens (load_pieces tree) ++ ts) ≡ total size (tokens (load_pieces tree)) + total size ts = total-append size (tokens (load_pieces tree)) ts in
-    omega (arith, first, others, a, b)
+    let form = form_within tree.form in
+    let c : length (form_line tree.form ++ (line (load_pieces tree) ++ text)) ≡ length (form_line tree.form) + length (line (load_pieces tree) ++ text) = length-append (form_line tree.form) (line (load_pieces tree) ++ text) in
+    let d : total size (form_tokens tree.form ++ (tokens (load_pieces tree) ++ ts)) ≡ total size (form_tokens tree.form) + total size (tokens (load_pieces tree) ++ ts) = total-append size (form_tokens tree.form) (tokens (load_pieces tree) ++ ts) in
+    omega (arith, first, others, form, a, b, c, d)
 
 script_short : (n : ℕ) (text : List ℕ) (tree : Script) → IsScriptWith n text tree → length (canonical tree) ≤ 2 * length text
 script_short n text tree g =
@@ -90,11 +126,11 @@ record HasWhole (text : List ℕ) (ts : List Token) : Type 0 where
 module _ (read : (laid : List Laid) (last : List ℕ) → IsLayout laid → IsLast last → IsReadAgain laid last) (law : IsLawful) where
   whole_by : (tree : Script) → ArePrintable (canonical_tokens tree) → HasWhole (canonical tree) (canonical_tokens tree)
   whole_by tree p =
-      let made = text_laid law (load_pieces tree) (canonical_lines tree) (load_starts tree) (statements_start tree.statements) (subst ArePrintable (sym (same_tokens tree)) p) in
+      let made = text_laid law (first_line tree.form tree) (other_lines tree.form tree) (first_starts tree.form tree) (others_start tree.form tree) (subst ArePrintable (sym (same_tokens tree.form tree)) p) in
       let r = read made.items made.last made.layout made.is_last in
       let given : HasWhole (text_of made.items made.last) (map (λ x. x.token) made.items) = record { places = r.places; end = r.end; has = r.has } in
-      let by_text : HasWhole (canonical tree) (map (λ x. x.token) made.items) = subst (λ (x : List ℕ). HasWhole x (map (λ x. x.token) made.items)) (sym made.text_is ∙ same_text tree) given in
-      subst (λ (ts : List Token). HasWhole (canonical tree) ts) (made.tokens_are ∙ same_tokens tree) by_text
+      let by_text : HasWhole (canonical tree) (map (λ x. x.token) made.items) = subst (λ (x : List ℕ). HasWhole x (map (λ x. x.token) made.items)) (sym made.text_is ∙ same_text tree.form tree) given in
+      subst (λ (ts : List Token). HasWhole (canonical tree) ts) (made.tokens_are ∙ same_tokens tree.form tree) by_text
 
   pub script_again : (n : ℕ) (text : List ℕ) (tree : Script) → IsScriptWith n text tree → IsScriptAgain n (canonical tree) tree
   script_again n text tree g =

@@ -9,7 +9,6 @@ use Rattle.gvdl_tokens.specs.declared.word.Word.TheVariants as w
 use Rattle.gvdl_tokens.specs.Printing.{ArePrintable}
 use Rattle.gvdl_tree.specs.declared.predicate.Cmp.{Cmp}
 use Rattle.gvdl_tree.specs.declared.predicate.Field.{Field}
-use Rattle.gvdl_tree.specs.declared.predicate.Field.TheVariants as field
 use Rattle.gvdl_tree.specs.declared.predicate.Operand.{Operand}
 use Rattle.gvdl_tree.specs.declared.predicate.Operand.TheVariants as operand
 use Rattle.gvdl_tree.specs.declared.predicate.PredTree.{PredTree}

@@ -11,7 +11,6 @@ use Rattle.gvdl_tree.specs.declared.expression.ExprTree.{ExprTree}
 use Rattle.gvdl_tree.specs.declared.expression.ExprTree.TheVariants as e
 use Rattle.gvdl_tree.specs.declared.expression.Test.{Test}
 use Rattle.gvdl_tree.specs.declared.expression.Test.TheVariants as test
-use Rattle.phrase_theory.specs.Phrases.{Then}
 use Rattle.phrase_theory.specs.LevelLaws.{Within}
 use Rattle.gvdl_parser.specs.Terminals.{cmp_token, term_token, factor_token, extreme_token}
 use Rattle.gvdl_parser.specs.Expressions.{product_tree, sum_tree, else_tree, factor, product_of, term, sum_of, sums_of, compared_sum, nil_sum, test_of, condition_of, negative, enclosed, extreme_tree, extreme, unary_with, conditional, unary, expression}

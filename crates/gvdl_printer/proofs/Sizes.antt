@@ -13,7 +13,6 @@ use Rattle.gvdl_tokens.specs.declared.token.Token.{Token}
 use Rattle.gvdl_tokens.specs.declared.token.Token.TheVariants as t
 use Rattle.gvdl_tokens.specs.declared.token.Sign.{Sign}
 use Rattle.gvdl_tokens.specs.declared.token.Sign.TheVariants as s
-use Rattle.gvdl_tokens.specs.declared.word.Word.{Word}
 use Rattle.gvdl_tokens.specs.declared.place.Place.{Place}
 use Rattle.gvdl_tokens.specs.declared.tokens.Ending.{Ending}
 use Rattle.gvdl_tokens.specs.declared.tokens.Tokens.{Tokens}

@@ -1,5 +1,5 @@
 -- What is written of a statement is that statement, in no more tokens and with no more levels.
-use Rattle.std.proofs.Common.{◌≡◌, ◌∙◌, ℕ, List, [], ◌∷◌, ◌++◌, Option, Some, None, refl, sym, ap, subst, inl, inr, arith, append_assoc}
+use Rattle.std.proofs.Common.{◌≡◌, ◌∙◌, ℕ, Bool, true, false, List, [], ◌∷◌, ◌++◌, Option, Some, None, refl, sym, ap, subst, inl, inr, arith, append_assoc}
 use Rattle.std.proofs.lemmas.List.{append-nil}
 use Rattle.gvdl_tokens.specs.declared.token.Token.{Token}
 use Rattle.gvdl_tokens.specs.declared.token.Token.TheVariants as t
@@ -9,7 +9,6 @@ use Rattle.gvdl_tokens.specs.declared.word.Word.TheVariants as w
 use Rattle.gvdl_tokens.specs.Printing.{IsPrintable}
 use Rattle.gvdl_tokens.specs.Spelling.{word_spelling}
 use Rattle.gvdl_tree.specs.declared.script.Arg.{Arg}
-use Rattle.gvdl_tree.specs.declared.script.Arg.TheVariants as arg
 use Rattle.gvdl_tree.specs.declared.script.Call.{Call}
 use Rattle.gvdl_tree.specs.declared.script.Item.{Item}
 use Rattle.gvdl_tree.specs.declared.script.ItemBody.{ItemBody}
@@ -19,11 +18,12 @@ use Rattle.gvdl_tree.specs.declared.script.SplitWord.{SplitWord}
 use Rattle.gvdl_tree.specs.declared.script.SplitWord.TheVariants as split
 use Rattle.gvdl_tree.specs.declared.script.Statement.{Statement}
 use Rattle.gvdl_tree.specs.declared.script.Statement.TheVariants as statement
+use Rattle.gvdl_parser.specs.declared.run.RunOptions.{RunOptions}
 use Rattle.phrase_theory.specs.Phrases.{one, word, pure, Then, separated, optional}
 use Rattle.gvdl_parser.specs.Terminals.{along_token, gather_token, within_token}
-use Rattle.gvdl_parser.specs.Statements.{behind, part, listed_behind, parentheses, listed, window, rule, item_body, item, items, collection, single, made, create, append, show_order, show_work, shown, show, number_arg, prop_arg, arg_phrase, call, rounds_word, split_none, split_every, split_auto, split_word, order_part, split_part, keep_part, run, program, statement_phrase}
+use Rattle.gvdl_parser.specs.Statements.{behind, part, listed_behind, parentheses, listed, window, rule, item_body, item, items, collection, single, made, create, append, show_order, show_work, shown, show, number_arg, prop_arg, arg_phrase, call, rounds_word, split_none, split_every, split_auto, split_word, order_part, split_part, keep_part, unphased, phased, run_options, run, program, show_tree, insert, remove, sum_part, aggregate, second_form, statement_phrase}
 use Rattle.gvdl_printer.specs.Layout.{Piece, tokens, plain, sign, word as word_piece}
-use Rattle.gvdl_printer.specs.Canonical.{int_pieces, predicate_pieces, expression_pieces, joined, in_call, arg_pieces, call_pieces, body_pieces, item_pieces, items_pieces, order_pieces, split_pieces, keep_pieces, statement_pieces}
+use Rattle.gvdl_printer.specs.Canonical.{int_pieces, predicate_pieces, expression_pieces, joined, in_call, arg_pieces, call_pieces, body_pieces, item_pieces, items_pieces, order_pieces, split_pieces, keep_pieces, options_pieces, sum_pieces, statement_pieces}
 use Rattle.gvdl_printer.proofs.NameTests.{shaped_utf8}
 use Rattle.gvdl_printer.proofs.Better.{AreFewer, IsBetter, Writes, named, pure_is, word_is, one_is, step, left, right}
 use Rattle.gvdl_printer.proofs.Ladder.{tokens-append}
@@ -44,7 +44,7 @@ behind_is {A} {f} w each ts a q =
     named (step q (word_is q.first) (step k (each k.front k.tree k.first) (pure_is k.second)))
     (ap (λ (x : List Token). t.Word w ∷ x) (append-nil (f k.tree)) ∙ ap (λ (x : A). t.Word w ∷ f x) (sym k.second.1))
 
-part_is : {A : Type 0} {f : A → List Token} {L M : List Token → A → Type 0} (w : Word) → Writes f L M → Writes (λ a. t.Word w ∷ (f a ++ (t.Sign s.Semicolon ∷ []))) (part w L) (part w M)
+pub part_is : {A : Type 0} {f : A → List Token} {L M : List Token → A → Type 0} (w : Word) → Writes f L M → Writes (λ a. t.Word w ∷ (f a ++ (t.Sign s.Semicolon ∷ []))) (part w L) (part w M)
 unfolding part
 part_is {A} {f} w each ts a q =
     let k = q.second in
@@ -52,7 +52,7 @@ part_is {A} {f} w each ts a q =
     named (step q (word_is q.first) (step k (each k.front k.tree k.first) (step l (word_is l.first) (pure_is l.second))))
     (ap (λ (x : A). t.Word w ∷ (f x ++ (t.Sign s.Semicolon ∷ []))) (sym l.second.1))
 
-optional_is : {A : Type 0} {f : A → List Token} {L M : List Token → A → Type 0} (g : Option A → List Token) → g None ≡ [] → ((a : A) → g (Some a) ≡ f a) → Writes f L M → Writes g (optional L) (optional M)
+pub optional_is : {A : Type 0} {f : A → List Token} {L M : List Token → A → Type 0} (g : Option A → List Token) → g None ≡ [] → ((a : A) → g (Some a) ≡ f a) → Writes f L M → Writes g (optional L) (optional M)
 optional_is {A} {f} g at_none at_some each ts o q = elim q.which [
   | inl h ↦ named (left (step h (each h.front h.tree h.first) (pure_is h.second))) (append-nil (f h.tree) ∙ sym (at_some h.tree) ∙ ap g (sym h.second.1))
   | inr h ↦ named (right (pure_is h)) (sym (ap g h.1 ∙ at_none))
@@ -214,11 +214,22 @@ show_work_is ts x q = record {
   better = step q (part_is w.Work carried q.front q.tree q.first) (pure_is q.second);
 }
 
+show_tree_is : (ts : List Token) (x : Statement) → show_tree ts x → IsRest (t.Word w.Show ∷ []) show_tree ts x
+unfolding show_tree
+show_tree_is ts x q = record {
+  made_ = t.Word w.Tree ∷ t.Name q.tree ∷ t.Sign s.Semicolon ∷ [];
+  whole = sym (ap statement_tokens q.second.1);
+  better = step q (part_is w.Tree carried q.front q.tree q.first) (pure_is q.second);
+}
+
 shown_is : (ts : List Token) (x : Statement) → shown ts x → IsRest (t.Word w.Show ∷ []) shown ts x
 unfolding shown
 shown_is ts x q = elim q.which [
   | inl h ↦ let r = show_order_is ts x h in record { made_ = r.made_; whole = r.whole; better = left r.better }
-  | inr h ↦ let r = show_work_is ts x h in record { made_ = r.made_; whole = r.whole; better = right r.better }
+  | inr u ↦ elim u.which [
+    | inl h ↦ let r = show_work_is ts x h in record { made_ = r.made_; whole = r.whole; better = right (left r.better) }
+    | inr h ↦ let r = show_tree_is ts x h in record { made_ = r.made_; whole = r.whole; better = right (right r.better) }
+  ]
 ]
 
 show_is : Writes statement_tokens show show
@@ -308,6 +319,27 @@ keep_is = optional_is (λ k. tokens (keep_pieces k)) refl (λ k. refl) kept_is
 ending_spelt : (o : Option OrderWord) (d : Option SplitWord) (k : Option (List ℕ)) → tokens (order_pieces o ++ (split_pieces d ++ (keep_pieces k ++ sign s.Semicolon ∷ []))) ≡ tokens (order_pieces o) ++ (tokens (split_pieces d) ++ (tokens (keep_pieces k) ++ (t.Sign s.Semicolon ∷ [])))
 ending_spelt o d k = tokens-append (order_pieces o) _ ∙ ap (λ (x : List Token). tokens (order_pieces o) ++ x) (tokens-append (split_pieces d) _ ∙ ap (λ (x : List Token). tokens (split_pieces d) ++ x) (tokens-append (keep_pieces k) (sign s.Semicolon ∷ [])))
 
+abbrev options_tokens : RunOptions → List Token
+options_tokens o = tokens (options_pieces o.order o.split o.keep o.phases)
+
+unphased_is : Writes options_tokens unphased unphased
+unfolding unphased
+unphased_is ts o q =
+    let h = q.second in
+    let i = h.second in
+    let k = i.second in
+    named (step q (order_is q.front q.tree q.first) (step h (split_is h.front h.tree h.first) (step i (keep_is i.front i.tree i.first) (step k (word_is k.first) (pure_is k.second)))))
+    (sym (ap options_tokens k.second.1 ∙ ending_spelt q.tree h.tree i.tree))
+
+phased_is : Writes options_tokens phased phased
+unfolding phased
+phased_is ts o q = named (step q (part_is w.Phases carried q.front q.tree q.first) (pure_is q.second)) (sym (ap options_tokens q.second.1))
+
+options_is : (within : Bool) → Writes options_tokens (run_options within) (run_options within)
+unfolding run_options
+options_is true = either_is phased_is unphased_is
+options_is false = unphased_is
+
 run_is : Writes statement_tokens run run
 unfolding run
 run_is ts x q =
@@ -318,16 +350,13 @@ run_is ts x q =
     let f = d.second in
     let g = f.second in
     let h = g.second in
-    let i = h.second in
-    let j = i.second in
-    let k = j.second in
-    let middle : List Piece = order_pieces h.tree ++ (split_pieces i.tree ++ (keep_pieces j.tree ++ sign s.Semicolon ∷ [])) in
-    let spelt : statement_tokens (statement.Run a.tree c.tree d.tree f.tree h.tree i.tree j.tree) ≡ t.Word w.Run ∷ (call_tokens_of a.tree ++ (t.Word w.On ∷ t.Name c.tree ∷ within_token d.tree ∷ t.Number f.tree ∷ t.Word w.Rounds ∷ (tokens (order_pieces h.tree) ++ (tokens (split_pieces i.tree) ++ (tokens (keep_pieces j.tree) ++ (t.Sign s.Semicolon ∷ [])))))) =
-    ap (λ (x : List Token). t.Word w.Run ∷ x) (tokens-append (call_pieces a.tree) (word_piece w.On ∷ plain (t.Name c.tree) ∷ plain (within_token d.tree) ∷ plain (t.Number f.tree) ∷ word_piece w.Rounds ∷ middle)
-    ∙ ap (λ (x : List Token). call_tokens_of a.tree ++ (t.Word w.On ∷ t.Name c.tree ∷ within_token d.tree ∷ t.Number f.tree ∷ t.Word w.Rounds ∷ x)) (ending_spelt h.tree i.tree j.tree)) in
+    let o : RunOptions = h.tree in
+    let made_ : List Token = t.Word w.Run ∷ (call_tokens_of a.tree ++ (t.Word w.On ∷ t.Name c.tree ∷ within_token d.tree ∷ t.Number f.tree ∷ t.Word w.Rounds ∷ options_tokens o)) in
+    let spelt : statement_tokens (statement.Run a.tree c.tree d.tree f.tree o.order o.split o.keep o.phases) ≡ made_ =
+    ap (λ (x : List Token). t.Word w.Run ∷ x) (tokens-append (call_pieces a.tree) (word_piece w.On ∷ plain (t.Name c.tree) ∷ plain (within_token d.tree) ∷ plain (t.Number f.tree) ∷ word_piece w.Rounds ∷ options_pieces o.order o.split o.keep o.phases)) in
     named (step q (word_is q.first) (step a (call_is a.front a.tree a.first) (step b (word_is b.first) (step c (one_is c.first) (step d (one_is d.first) (step f (one_is f.first) (step g (rounds_is g.front g.tree g.first)
-    (step h (order_is h.front h.tree h.first) (step i (split_is i.front i.tree i.first) (step j (keep_is j.front j.tree j.first) (step k (word_is k.first) (pure_is k.second))))))))))))
-    (sym (ap statement_tokens k.second.1 ∙ spelt))
+    (step h (options_is d.tree h.front h.tree h.first) (pure_is h.second)))))))))
+    (ap (λ (x : List Token). t.Word w.Run ∷ (call_tokens_of a.tree ++ (t.Word w.On ∷ t.Name c.tree ∷ within_token d.tree ∷ t.Number f.tree ∷ t.Word w.Rounds ∷ x))) (append-nil (options_tokens o)) ∙ sym (ap statement_tokens h.second.1 ∙ spelt))
 
 -- ---- programs
 
@@ -370,8 +399,44 @@ program_is n ts x q =
           e3 ∙ ap (λ (x : List Token). start ++ (t.Sign s.Semicolon ∷ t.Word w.Send ∷ x)) (e2 ∙ ap (λ (x : List Token). send ++ (t.Sign s.Semicolon ∷ t.Word w.Gather ∷ gather ∷ t.Sign s.Semicolon ∷ t.Word w.Update ∷ x)) (e1 ∙ sym (append_assoc update (t.Sign s.Semicolon ∷ []) (t.Sign s.CloseBrace ∷ [])))
           ∙ sym (append_assoc send (t.Sign s.Semicolon ∷ []) _)) ∙ sym (append_assoc start (t.Sign s.Semicolon ∷ []) _)
 
+-- ---- statements of form 2
+
+insert_is : Writes statement_tokens insert insert
+unfolding insert
+insert_is ts x q =
+    let k = q.second in
+    named (step q (word_is q.first) (step k (part_is w.Edges carried k.front k.tree k.first) (pure_is k.second))) (sym (ap statement_tokens k.second.1))
+
+remove_is : (n : ℕ) → Writes statement_tokens (remove n) (remove n)
+unfolding remove
+remove_is n ts x q =
+    let k = q.second in
+    let l = k.second in
+    let m = l.second in
+    let o = m.second in
+    named (step q (word_is q.first) (step k (word_is k.first) (step l (word_is l.first) (step m (predicate_is n m.front m.tree m.first) (step o (word_is o.first) (pure_is o.second))))))
+    (sym (ap statement_tokens o.second.1 ∙ ap (λ (x : List Token). t.Word w.Remove ∷ t.Word w.Edges ∷ t.Word w.Where ∷ x) (tokens-append (predicate_pieces m.tree 0) (sign s.Semicolon ∷ []))))
+
+sum_is : Writes (λ p. tokens (sum_pieces p)) sum_part sum_part
+unfolding sum_part
+sum_is = optional_is (λ p. tokens (sum_pieces p)) refl (λ p. refl) (behind_is w.Sum prop_is)
+
+aggregate_is : Writes statement_tokens aggregate aggregate
+unfolding aggregate
+aggregate_is ts x q =
+    let k = q.second in
+    let l = k.second in
+    let m = l.second in
+    let o = m.second in
+    named (step q (behind_is w.Aggregate carried q.front q.tree q.first) (step k (word_is k.first) (step l (behind_is w.By prop_is l.front l.tree l.first) (step m (sum_is m.front m.tree m.first) (step o (word_is o.first) (pure_is o.second))))))
+    (sym (ap statement_tokens o.second.1 ∙ ap (λ (x : List Token). t.Word w.Aggregate ∷ t.Name q.tree ∷ t.Word w.Group ∷ t.Word w.By ∷ prop_token l.tree ∷ x) (tokens-append (sum_pieces m.tree) (sign s.Semicolon ∷ []))))
+
+second_form_is : (n : ℕ) → Writes statement_tokens (second_form n) (second_form n)
+unfolding second_form
+second_form_is n = either_is insert_is (either_is (remove_is n) aggregate_is)
+
 -- ---- all statements
 
 pub statement_is : (n : ℕ) → Writes statement_tokens (statement_phrase n) (statement_phrase n)
 unfolding statement_phrase
-statement_is n = either_is (create_is n) (either_is (program_is n) (either_is run_is (either_is (append_is n) show_is)))
+statement_is n = either_is (create_is n) (either_is (program_is n) (either_is run_is (either_is (append_is n) (either_is show_is (second_form_is n)))))

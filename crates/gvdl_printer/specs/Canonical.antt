@@ -145,6 +145,18 @@ abbrev pub keep_pieces : Option (List ℕ) → List Piece
 keep_pieces None = []
 keep_pieces (Some name) = word w.Keep ∷ word w.As ∷ plain (t.Name name) ∷ []
 
+abbrev pub phases_pieces : Option ℕ → List Piece
+phases_pieces None = []
+phases_pieces (Some n) = word w.Phases ∷ plain (t.Number n) ∷ []
+
+-- what stands behind the rounds of a run
+abbrev pub options_pieces : Option OrderWord → Option SplitWord → Option (List ℕ) → Option ℕ → List Piece
+options_pieces order split keep phases = phases_pieces phases ++ (order_pieces order ++ (split_pieces split ++ (keep_pieces keep ++ sign s.Semicolon ∷ [])))
+
+abbrev pub sum_pieces : Option (List ℕ) → List Piece
+sum_pieces None = []
+sum_pieces (Some p) = word w.Sum ∷ prop_piece p ∷ []
+
 abbrev pub statement_pieces : Statement → List Piece
 statement_pieces (statement.View name base rule) =
     word w.Create ∷ word w.View ∷ plain (t.Name name) ∷ word w.On ∷ plain (t.Name base) ∷ word w.Edges ∷ word w.Where ∷ (predicate_pieces rule 0 ++ sign s.Semicolon ∷ [])
@@ -157,29 +169,50 @@ statement_pieces (statement.Program name params along start send gather update) 
     ∷ word w.Send ∷ (expression_pieces send 0 ++ sign s.Semicolon
     ∷ word w.Gather ∷ plain (gather_token gather) ∷ sign s.Semicolon
     ∷ word w.Update ∷ (expression_pieces update 0 ++ sign s.Semicolon ∷ sign s.CloseBrace ∷ []))))
-statement_pieces (statement.Run call target within number order split keep) =
+statement_pieces (statement.Run call target within number order split keep phases) =
     word w.Run ∷ (call_pieces call ++ word w.On ∷ plain (t.Name target) ∷ plain (within_token within) ∷ plain (t.Number number) ∷ word w.Rounds
-    ∷ (order_pieces order ++ (split_pieces split ++ (keep_pieces keep ++ sign s.Semicolon ∷ []))))
+    ∷ options_pieces order split keep phases)
 statement_pieces (statement.Append target items) = word w.Append ∷ word w.To ∷ plain (t.Name target) ∷ (items_pieces items ++ sign s.Semicolon ∷ [])
 statement_pieces (statement.ShowOrder name) = word w.Show ∷ word w.Order ∷ plain (t.Name name) ∷ sign s.Semicolon ∷ []
 statement_pieces (statement.ShowWork name) = word w.Show ∷ word w.Work ∷ plain (t.Name name) ∷ sign s.Semicolon ∷ []
+statement_pieces (statement.ShowTree name) = word w.Show ∷ word w.Tree ∷ plain (t.Name name) ∷ sign s.Semicolon ∷ []
+statement_pieces (statement.Insert file) = word w.Insert ∷ word w.Edges ∷ plain (t.Str file) ∷ sign s.Semicolon ∷ []
+statement_pieces (statement.Remove rule) = word w.Remove ∷ word w.Edges ∷ word w.Where ∷ (predicate_pieces rule 0 ++ sign s.Semicolon ∷ [])
+statement_pieces (statement.Aggregate target by sum) =
+    word w.Aggregate ∷ plain (t.Name target) ∷ word w.Group ∷ word w.By ∷ prop_piece by ∷ (sum_pieces sum ++ sign s.Semicolon ∷ [])
 
 abbrev pub load_pieces : Script → List Piece
 load_pieces script = word w.Load ∷ word w.Graph ∷ plain (t.Name script.graph) ∷ word w.Nodes ∷ plain (t.Str script.nodes) ∷ word w.Edges ∷ plain (t.Str script.edges) ∷ sign s.Semicolon ∷ []
 
+abbrev pub form_pieces : ℕ → List Piece
+form_pieces n = word w.Form ∷ plain (t.Number n) ∷ sign s.Semicolon ∷ []
+
 -- ---- texts
 
--- one statement a line, the load first
+-- the line of the form, where it is written
+abbrev pub form_line : Option ℕ → List ℕ
+form_line None = []
+form_line (Some n) = line (form_pieces n)
+
+abbrev pub form_tokens : Option ℕ → List Token
+form_tokens None = []
+form_tokens (Some n) = tokens (form_pieces n)
+
+-- one statement a line, the form and the load first
 abbrev pub canonical : Script → List ℕ
-canonical script = line (load_pieces script) ++ flat_map (λ statement. line (statement_pieces statement)) script.statements
+canonical script = form_line script.form ++ (line (load_pieces script) ++ flat_map (λ statement. line (statement_pieces statement)) script.statements)
 
 -- the tokens of the canonical text
 abbrev pub canonical_tokens : Script → List Token
-canonical_tokens script = tokens (load_pieces script) ++ flat_map (λ statement. tokens (statement_pieces statement)) script.statements
+canonical_tokens script = form_tokens script.form ++ (tokens (load_pieces script) ++ flat_map (λ statement. tokens (statement_pieces statement)) script.statements)
 
 -- the canonical text of a property
 abbrev pub canonical_property : List ℕ → List ℕ
 canonical_property name = laid_out (prop_piece name ∷ [])
+
+-- the canonical text of a string
+abbrev pub canonical_string : List ℕ → List ℕ
+canonical_string string = laid_out (plain (t.Str string) ∷ [])
 
 -- the canonical text of a call
 abbrev pub canonical_call : Call → List ℕ

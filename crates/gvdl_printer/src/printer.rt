@@ -6,20 +6,23 @@ ghost use Rattle.gvdl_parser.specs.Statements.{script as script_phrase};
 ghost use Rattle.gvdl_parser.specs.Script.{IsScriptWith, IsScript};
 ghost use Rattle.gvdl_printer.specs.Again.{IsScriptAgain, IsParsedAs};
 ghost use Rattle.gvdl_printer.specs.Layout.{line};
-ghost use Rattle.gvdl_printer.specs.Canonical.{canonical, canonical_tokens, canonical_call, canonical_property, load_pieces, statement_pieces};
+ghost use Rattle.gvdl_printer.specs.Canonical.{canonical, canonical_tokens, canonical_call, canonical_property, canonical_string, form_pieces, form_line, load_pieces, statement_pieces};
 ghost use Rattle.gvdl_printer.specs.Pages.{wrote};
 
+use crate::aggregate::aggregate;
+use crate::edits::{insert, remove};
 use crate::leaf::prop;
 use crate::page::Page;
 use crate::program::{Ways, program};
 use crate::run::{Limits, call, run, show};
-use crate::view::{append, collection, named, single};
+use crate::view::{append, collection, counted, named, single};
 use gvdl_tokens::{Sign, Word, laid_out_tokens_are_read_again};
 use gvdl_tree::{Call, Script, Statement};
 use std::alloc::Global;
 use surge_outside::{List, NoMemory, Text};
 
-/// The canonical text of a script: one statement a line, the load first, each line ended by LF.
+/// The canonical text of a script: one statement a line, each line ended by LF; the load first, and before it the form where
+/// one is written.
 ///
 /// Where the script is what some text says, the canonical text says it again, with no more levels open at once; its tokens
 /// are those of the definition, no text that says the same has fewer, and it has at most twice as many bytes as any such
@@ -47,7 +50,7 @@ pub fn print(alloc: Global, script: &Script) -> Result<List<u8>, NoMemory>
 fn lines(alloc: Global, script: &Script) -> Result<List<u8>, NoMemory>
     ensures { IfOk result (λ text. text ≡ canonical script.now) }
 {
-    let mut text = List::new(alloc);
+    let mut text = form_line(alloc, script.form)?;
     text.append(load_line(alloc, script)?)?;
     for statement in script.statements.as_slice() {
         text.append(statement_line(alloc, statement)?)?;
@@ -80,6 +83,46 @@ pub fn print_property(alloc: Global, name: &Text) -> Result<List<u8>, NoMemory>
     let mut page = Page::new(alloc);
     prop(&mut page, name)?;
     Ok(page.text)
+}
+
+/// A text as a string of the script language: in single quotes, each quote in it written twice.
+///
+/// # Errors
+///
+/// [`NoMemory`] where a request for memory was refused.
+pub fn print_string(alloc: Global, string: &Text) -> Result<List<u8>, NoMemory>
+    ensures { IfOk result (λ text. text ≡ canonical_string string.now) }
+{
+    let mut page = Page::new(alloc);
+    page.string(string)?;
+    Ok(page.text)
+}
+
+// The line of the form, where one is written.
+fn form_line(alloc: Global, form: Option<u64>) -> Result<List<u8>, NoMemory>
+    ensures { IfOk result (λ text. text ≡ form_line form) }
+{
+    match form {
+        None => Ok(List::new(alloc)),
+        Some(number) => written_form(alloc, number),
+    }
+}
+
+// The line of a form.
+fn written_form(alloc: Global, number: u64) -> Result<List<u8>, NoMemory>
+    ensures { IfOk result (λ text. text ≡ line (form_pieces number)) }
+{
+    let mut page = Page::new(alloc);
+    write_form(alloc, &mut page, number)?;
+    ended(page)
+}
+
+#[tactic(auto, using(crate::proofs::Growing::growing))]
+fn write_form(alloc: Global, page: &mut Page, number: u64) -> Result<(), NoMemory>
+    ensures { IfOk result (λ _. page.new ≡ wrote page.old (form_pieces number)) }
+{
+    counted(alloc, page, Word::Form, number)?;
+    page.sign(Sign::Semicolon)
 }
 
 // The line of a load.
@@ -162,17 +205,23 @@ fn write_statement(alloc: Global, page: &mut Page, statement: &Statement) -> Res
             order,
             split,
             keep,
+            phases,
         } => {
             let limits = Limits {
                 within: *within,
                 number: *number,
                 order: *order,
                 split: *split,
+                phases: *phases,
             };
             run(alloc, page, call, target, limits, keep)
         }
         Statement::Append { target, items } => append(alloc, page, target, items.as_slice()),
         Statement::ShowOrder { name } => show(page, Word::Order, name),
         Statement::ShowWork { name } => show(page, Word::Work, name),
+        Statement::ShowTree { name } => show(page, Word::Tree, name),
+        Statement::Insert { file } => insert(page, file),
+        Statement::Remove { rule } => remove(alloc, page, rule),
+        Statement::Aggregate { target, by, sum } => aggregate(page, target, by, sum),
     }
 }

@@ -7,7 +7,7 @@ ghost use Rattle.gvdl_tokens.specs.declared.word.Word.{Word};
 ghost use Rattle.gvdl_tree.specs.declared.script.Statement.{Statement};
 ghost use Rattle.gvdl_parser.specs.Terminals.{within_token};
 ghost use Rattle.gvdl_printer.specs.Layout.{plain, word, sign};
-ghost use Rattle.gvdl_printer.specs.Canonical.{in_call, arg_pieces, call_pieces, order_pieces, split_pieces, keep_pieces, statement_pieces};
+ghost use Rattle.gvdl_printer.specs.Canonical.{in_call, arg_pieces, call_pieces, order_pieces, split_pieces, keep_pieces, phases_pieces, options_pieces, statement_pieces};
 ghost use Rattle.gvdl_printer.specs.Pages.{wrote};
 
 use crate::leaf::{int, prop};
@@ -62,6 +62,7 @@ pub struct Limits {
     pub number: u64,
     pub order: Option<OrderWord>,
     pub split: Option<SplitWord>,
+    pub phases: Option<u64>,
 }
 
 /// A run.
@@ -74,7 +75,7 @@ pub fn run(
     limits: Limits,
     kept: &Option<Text>,
 ) -> Result<(), NoMemory>
-    ensures { IfOk result (λ _. page.new ≡ wrote page.old (statement_pieces (Statement.Run called.now target.now limits.within limits.number limits.order limits.split kept.now))) }
+    ensures { IfOk result (λ _. page.new ≡ wrote page.old (statement_pieces (Statement.Run called.now target.now limits.within limits.number limits.order limits.split kept.now limits.phases))) }
 {
     page.word(Word::Run)?;
     call(alloc, page, called)?;
@@ -83,6 +84,20 @@ pub fn run(
     within(page, limits.within)?;
     page.number(alloc, limits.number)?;
     page.word(Word::Rounds)?;
+    options(alloc, page, limits, kept)
+}
+
+// What stands behind the rounds.
+#[tactic(auto, using(crate::proofs::Growing::growing))]
+fn options(
+    alloc: Global,
+    page: &mut Page,
+    limits: Limits,
+    kept: &Option<Text>,
+) -> Result<(), NoMemory>
+    ensures { IfOk result (λ _. page.new ≡ wrote page.old (options_pieces limits.order limits.split kept.now limits.phases)) }
+{
+    phases(alloc, page, limits.phases)?;
     order(page, limits.order)?;
     split(alloc, page, limits.split)?;
     keep(page, kept)?;
@@ -113,6 +128,20 @@ fn order(page: &mut Page, asked: Option<OrderWord>) -> Result<(), NoMemory>
             page.word(Word::Order)?;
             page.word(Word::Declared)
         }
+        Some(OrderWord::Tree) => {
+            page.word(Word::Order)?;
+            page.word(Word::Tree)
+        }
+    }
+}
+
+#[tactic(auto, using(crate::proofs::Growing::growing))]
+fn phases(alloc: Global, page: &mut Page, asked: Option<u64>) -> Result<(), NoMemory>
+    ensures { IfOk result (λ _. page.new ≡ wrote page.old (phases_pieces asked)) }
+{
+    match asked {
+        None => Ok(()),
+        Some(number) => counted(alloc, page, Word::Phases, number),
     }
 }
 

@@ -1,5 +1,5 @@
 -- The properties among the arguments of a call are names of columns.
-use Rattle.std.proofs.Common.{◌≡◌, ◌∙◌, ℕ, ◌+◌, ℤ, Bool, true, false, List, [], ◌∷◌, map, length, refl, subst, if◌then◌else◌, Ok}
+use Rattle.std.proofs.Common.{◌≡◌, ℕ, ◌+◌, ℤ, Bool, true, false, List, [], ◌∷◌, map, length, refl, subst, if◌then◌else◌, Ok}
 use Rattle.std.specs.Prelude.{◌==◌, bytes_eq, All, Contains}
 use Rattle.std.proofs.lemmas.Slice.Eq.{bytes_eq-Decides}
 use Rattle.std.proofs.lemmas.List.Elements.{All-nil, All-cons, All-head, All-contains_itself, Contains-append_right}
@@ -18,9 +18,9 @@ use Rattle.gvdl_programs.specs.declared.refusal.Refusal.TheVariants as refusal
 use Rattle.gvdl_programs.specs.declared.template.ProgramTemplate.{ProgramTemplate}
 use Rattle.gvdl_programs.specs.declared.template.Callable.{Callable}
 use Rattle.gvdl_programs.specs.declared.template.Callable.TheVariants as callable
-use Rattle.gvdl_programs.specs.Judging.{Judged, ◌>>=◌, ◌>>◌, expect, each}
+use Rattle.gvdl_programs.specs.Judging.{◌>>=◌, ◌>>◌, expect, each}
 use Rattle.gvdl_programs.specs.JudgingLaws.{through}
-use Rattle.gvdl_programs.specs.Columns.{column_from, column_of, int_column}
+use Rattle.gvdl_programs.specs.Columns.{column_from, column_of}
 use Rattle.gvdl_programs.specs.Filled.{filled_program}
 use Rattle.gvdl_programs.specs.Calls.{ArgFits, number_argument, weight_of, hops_called, dist_called, plain_called, written_called, called}
 

@@ -1,6 +1,6 @@
 -- A program that is called holds the number -(2^63) only where an argument is that number.
-use Rattle.std.proofs.Common.{◌≡◌, ◌≢◌, ◌∙◌, ◌++◌, ℕ, ℤ, zero, suc, pos, Bool, true, false, ◌&&◌, List, [], ◌∷◌, map, length, get_or, refl, sym, ap, subst, inl, inr, Ok}
-use Rattle.std.specs.Prelude.{◌==◌, not, All, Contains}
+use Rattle.std.proofs.Common.{◌≡◌, ◌≢◌, ◌∙◌, ◌++◌, ℕ, ℤ, zero, suc, pos, true, false, List, [], ◌∷◌, map, length, get_or, refl, sym, ap, subst, inl, inr, Ok}
+use Rattle.std.specs.Prelude.{◌==◌, not, Contains}
 use Rattle.std.specs.List.{list_all}
 use Rattle.std.proofs.lemmas.Bool.{false≢true}
 use Rattle.std.proofs.lemmas.Bool.Decides.{Decides-int_eq}
@@ -24,7 +24,7 @@ use Rattle.gvdl_programs.specs.declared.refusal.Refusal.TheVariants as refusal
 use Rattle.gvdl_programs.specs.declared.template.ProgramTemplate.{ProgramTemplate}
 use Rattle.gvdl_programs.specs.declared.template.Callable.{Callable}
 use Rattle.gvdl_programs.specs.declared.template.Callable.TheVariants as callable
-use Rattle.gvdl_programs.specs.Judging.{Judged, ◌>>=◌, expect, each}
+use Rattle.gvdl_programs.specs.Judging.{◌>>=◌, expect, each}
 use Rattle.gvdl_programs.specs.JudgingLaws.{through, same_value}
 use Rattle.gvdl_programs.specs.Filled.{filled_program}
 use Rattle.gvdl_programs.specs.Calls.{HasNoLowest, number_argument, weight_of, hops_called, dist_called, plain_called, written_called, called}

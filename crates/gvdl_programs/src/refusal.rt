@@ -26,6 +26,10 @@ pub enum Refusal {
     TooManyKept,
     /// A split into segments of no view.
     BadSplit,
+    /// A statement that only form 2 of the language has, in a script of form 1.
+    NeedsForm,
+    /// A statement that the program doesn't execute yet.
+    NotBuilt,
 }
 
 /// Why judging came to an end.

@@ -54,6 +54,8 @@ pub enum OrderWord {
     Greedy,
     /// `order declared`
     Declared,
+    /// `order tree`
+    Tree,
 }
 
 /// How the views of a collection are split into segments.
@@ -117,7 +119,8 @@ pub enum Statement {
         update: ExprTree,
     },
     /// `run CALL on TARGET within NUMBER rounds order ORDER split SPLIT keep as KEEP;`, with `for` in place of `within`
-    /// where `within` is false. The number is from 0 to 2^63 - 1.
+    /// where `within` is false; or `run CALL on TARGET within NUMBER rounds phases PHASES;`, which has no order, split or
+    /// keep. The numbers are from 0 to 2^63 - 1.
     Run {
         call: Call,
         target: Text,
@@ -126,6 +129,7 @@ pub enum Statement {
         order: Option<OrderWord>,
         split: Option<SplitWord>,
         keep: Option<Text>,
+        phases: Option<u64>,
     },
     /// `append to TARGET ITEMS;`, with one item or more.
     Append {
@@ -140,11 +144,33 @@ pub enum Statement {
     ShowWork {
         name: Text,
     },
+    /// `show tree NAME;`
+    ShowTree {
+        name: Text,
+    },
+    /// `insert edges FILE;`, with the name of a file, which may be empty.
+    Insert {
+        file: Text,
+    },
+    /// `remove edges where RULE;`
+    Remove {
+        rule: PredTree,
+    },
+    /// `aggregate TARGET group by BY sum SUM;`, with the names of a node property and of an edge property, of which the
+    /// second may be left out.
+    Aggregate {
+        target: Text,
+        by: Text,
+        sum: Option<Text>,
+    },
 }
 
-/// A whole script: a graph that is loaded from two files, and the statements after that, in order.
+/// A whole script: the form of the language it is written in, a graph that is loaded from two files, and the statements
+/// after that, in order.
 #[derive(Debug, Drop)]
 pub struct Script {
+    /// The number of the form, from 0 to 2^63 - 1, where the script begins with `form FORM;`.
+    pub form: Option<u64>,
     /// The graph's name.
     pub graph: Text,
     /// The name of the nodes file, which may be empty.

@@ -81,10 +81,13 @@ abbrev pub loaded : Result GraphData DataFault → Result GraphData Status
 loaded (Ok graph) = Ok graph
 loaded (Err fault) = Err (status.Data fault)
 
--- the plan of the script over its graph, or its first fault (a plan's definition never speaks of memory)
+-- the plan of the script over its graph, its first fault, or its first statement that isn't built yet (a plan's definition
+-- never speaks of memory)
 abbrev pub planned : Result Plan CheckFault → Result Plan Status
 planned (Ok plan) = Ok plan
+planned (Err check_fault.BadForm) = Err (status.Script refused.BadForm)
 planned (Err (check_fault.Fault fault)) = Err (status.Script (refused.Statement fault))
+planned (Err (check_fault.NotBuilt n)) = Err (status.Script (refused.NotBuilt n))
 planned (Err check_fault.NoMemory) = Err status.NoMemory
 
 -- the graph that these bytes of a nodes file and the edges file of a script spell

@@ -1,7 +1,7 @@
 //! Why a script is refused, and the line that says so.
 
 ghost use Rattle.std.specs.Prelude.{◌≡◌, IfOk, string_bytes};
-ghost use Rattle.surge_cli.specs.StatusText.{text_fault_name, statement_refusal_name, script_refusal_name, text_fault_place, where_text, place_text, statement_text, script_line};
+ghost use Rattle.surge_cli.specs.StatusText.{script_number, text_fault_name, statement_refusal_name, script_refusal_name, text_fault_place, where_text, place_text, statement_text, refused_line, unbuilt_line, unbuilt_of, script_line};
 
 use gvdl_check::StatementFault;
 use gvdl_parser::ScriptFault;
@@ -16,8 +16,23 @@ pub enum ScriptRefusal {
     TooLarge,
     /// The text has this first fault.
     Text(ScriptFault),
+    /// The text is a script that writes a form which is neither 1 nor 2.
+    BadForm,
     /// The text is a script, and this is its first fault against its graph.
     Statement(StatementFault),
+    /// The text is a script, of which the statement with this number isn't built yet, and no earlier one has a fault. The
+    /// load is statement 1.
+    NotBuilt(u32),
+}
+
+/// The exit status of a process for a script that is refused so: 9 where a statement isn't built yet, and else 5.
+pub(crate) fn script_number(refusal: ScriptRefusal) -> u8
+    ensures { result ≡ script_number refusal }
+{
+    match refusal {
+        ScriptRefusal::NotBuilt(_) => 9,
+        _ => 5,
+    }
 }
 
 fn text_fault_name(fault: ScriptFault) -> &'static str
@@ -44,6 +59,8 @@ fn statement_refusal_name(refusal: Refusal) -> &'static str
         Refusal::BadRounds => "BadRounds",
         Refusal::TooManyKept => "TooManyKept",
         Refusal::BadSplit => "BadSplit",
+        Refusal::NeedsForm => "NeedsForm",
+        Refusal::NotBuilt => "NotBuilt",
     }
 }
 
@@ -53,7 +70,9 @@ fn refusal_name(refusal: ScriptRefusal) -> &'static str
     match refusal {
         ScriptRefusal::TooLarge => "TooLarge",
         ScriptRefusal::Text(fault) => text_fault_name(fault),
+        ScriptRefusal::BadForm => "BadForm",
         ScriptRefusal::Statement(fault) => statement_refusal_name(fault.refusal),
+        ScriptRefusal::NotBuilt(_) => "NotBuilt",
     }
 }
 
@@ -76,7 +95,9 @@ fn where_text(alloc: Global, refusal: ScriptRefusal) -> Result<String, NoMemory>
     match refusal {
         ScriptRefusal::TooLarge => Ok(String::new(alloc)),
         ScriptRefusal::Text(fault) => text_fault_place(alloc, fault),
+        ScriptRefusal::BadForm => Ok(String::new(alloc)),
         ScriptRefusal::Statement(fault) => statement_text(alloc, fault.statement),
+        ScriptRefusal::NotBuilt(statement) => statement_text(alloc, statement),
     }
 }
 
@@ -92,9 +113,36 @@ fn statement_text(alloc: Global, number: u32) -> Result<String, NoMemory>
     Ok(format!(in alloc; "statement {number}: ")?)
 }
 
+// The line of a statement that isn't built yet.
+fn unbuilt_line(alloc: Global, number: u32) -> Result<String, NoMemory>
+    ensures { IfOk result (λ line. string_bytes line ≡ unbuilt_line number) }
+{
+    Ok(format!(in alloc; "surge: not built: statement {number}\n")?)
+}
+
+// The number of the statement that isn't built yet, where that is why the script is refused.
+fn unbuilt_of(refusal: ScriptRefusal) -> Option<u32>
+    ensures { result ≡ unbuilt_of refusal }
+{
+    match refusal {
+        ScriptRefusal::NotBuilt(number) => Some(number),
+        _ => None,
+    }
+}
+
 /// The line of a refused script, with its line feed. The one error is want of memory.
 pub(crate) fn script_line(alloc: Global, refusal: ScriptRefusal) -> Result<String, NoMemory>
     ensures { IfOk result (λ line. string_bytes line ≡ script_line refusal) }
+{
+    match unbuilt_of(refusal) {
+        Some(number) => unbuilt_line(alloc, number),
+        None => refused_line(alloc, refusal),
+    }
+}
+
+// The line of a script with a fault, or of a script as such.
+fn refused_line(alloc: Global, refusal: ScriptRefusal) -> Result<String, NoMemory>
+    ensures { IfOk result (λ line. string_bytes line ≡ refused_line refusal) }
 {
     let place = where_text(alloc, refusal)?;
     let name = refusal_name(refusal);

@@ -121,7 +121,9 @@ fn plan_script(alloc: Global, script: &Script, graph: &Graph) -> Result<Plan, St
 {
     match check(alloc, script, graph) {
         Ok(plan) => Ok(plan),
+        Err(CheckFault::BadForm) => Err(Status::Script(ScriptRefusal::BadForm)),
         Err(CheckFault::Fault(fault)) => Err(Status::Script(ScriptRefusal::Statement(fault))),
+        Err(CheckFault::NotBuilt(number)) => Err(Status::Script(ScriptRefusal::NotBuilt(number))),
         Err(CheckFault::NoMemory) => Err(Status::NoMemory),
     }
 }

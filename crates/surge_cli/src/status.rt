@@ -4,7 +4,7 @@ ghost use Rattle.std.specs.Prelude.{◌≡◌, IfOk, string_bytes};
 ghost use Rattle.std.specs.Cow.{cow_str_bytes};
 ghost use Rattle.surge_cli.specs.StatusText.{status_number, status_line, file_text, kind_text, fault_line};
 
-use crate::script_line::{ScriptRefusal, script_line};
+use crate::script_line::{ScriptRefusal, script_line, script_number};
 use graph_loader::{DataFault, DataFile, DataKind};
 use std::alloc::Global;
 use std::borrow::CowStr;
@@ -96,7 +96,7 @@ impl Status {
             Status::Usage => 2,
             Status::Absent(_) => 3,
             Status::Data(_) => 4,
-            Status::Script(_) => 5,
+            Status::Script(refusal) => script_number(*refusal),
             Status::ReadFault => 6,
             Status::WriteFault => 7,
             Status::NoMemory => 8,

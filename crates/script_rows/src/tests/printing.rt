@@ -4,11 +4,11 @@
 ghost use Rattle.std.specs.Prelude.{◌≡◌, ◌<◌, ◌^◌, length, IfOk};
 
 use gvdl_parser::{ParseFault, parse};
-use gvdl_printer::print;
+use gvdl_printer::{print, print_property, print_string};
 use gvdl_tree::Script;
 use std::alloc::Global;
 use std::test::Fail;
-use surge_outside::List;
+use surge_outside::{List, Text};
 
 // The script of a text, and the script of its canonical text, which is the same.
 fn read_twice(alloc: Global, text: &[u8]) -> Result<(Script, Script), ParseFault>
@@ -74,5 +74,58 @@ fn what_no_graph_takes(rt: HostRuntime) -> Result<(), Fail> {
     );
     let printed = printed_again(rt.alloc(), given)?;
     assert_eq!(rt; printed.as_slice(), canonical.as_bytes());
+    Ok(())
+}
+
+#[test]
+fn statements_of_form_two(rt: HostRuntime) -> Result<(), Fail> {
+    let given = concat!(
+        "form 0002 ;load graph G nodes 'n' edges 'e';",
+        "run p on C within 1 round phases 007;run p on C for 1 round order tree keep as K;",
+        "show   tree C;insert edges '';remove edges where(not(y=1));",
+        "aggregate C group by \"g\" ;aggregate C group by \"group\" sum \"w\";",
+    );
+    let canonical = concat!(
+        "form 2;\n",
+        "load graph G nodes 'n' edges 'e';\n",
+        "run p on C within 1 rounds phases 7;\n",
+        "run p on C for 1 rounds order tree keep as K;\n",
+        "show tree C;\n",
+        "insert edges '';\n",
+        "remove edges where not y = 1;\n",
+        "aggregate C group by g;\n",
+        "aggregate C group by \"group\" sum w;\n",
+    );
+    let printed = printed_again(rt.alloc(), given)?;
+    assert_eq!(rt; printed.as_slice(), canonical.as_bytes());
+    Ok(())
+}
+
+// A name as a property, a blank, and the same as a string.
+fn both_texts(alloc: Global, name: &str) -> Result<List<u8>, Fail> {
+    let name = Text::from_string(String::from_str(alloc, name)?);
+    let mut text = print_property(alloc, &name)?;
+    text.push(b' ')?;
+    text.append(print_string(alloc, &name)?)?;
+    Ok(text)
+}
+
+#[test]
+fn properties_and_strings(rt: HostRuntime) -> Result<(), Fail> {
+    let named = both_texts(rt.alloc(), "city")?;
+    assert_eq!(rt; named.as_slice(), b"city 'city'");
+    let quoted = both_texts(rt.alloc(), "O'Brien \"x\"")?;
+    assert_eq!(rt;
+        quoted.as_slice(),
+        "\"O'Brien \"\"x\"\"\" 'O''Brien \"x\"'".as_bytes()
+    );
+    Ok(())
+}
+
+#[test]
+fn any_number_of_a_form(rt: HostRuntime) -> Result<(), Fail> {
+    let text = "form 0;\nload graph G nodes 'n' edges 'e';\n";
+    let printed = printed_again(rt.alloc(), text)?;
+    assert_eq!(rt; printed.as_slice(), text.as_bytes());
     Ok(())
 }

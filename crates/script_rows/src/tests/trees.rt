@@ -56,19 +56,27 @@ const EXPRESSIONS: [(&str, &str); 5] = [
     ),
 ];
 
-// Runs, windows, and what is shown.
-const STATEMENTS: [(&str, &str); 3] = [
+// Runs, windows, what is shown, edges that come and go, and aggregates.
+const STATEMENTS: [(&str, &str); 5] = [
     (
         "run p(-3, w) on C for 7 round order declared split every 2 keep as K;",
-        "List { items: [Run { call: Call { name: Text { text: \"p\" }, args: List { items: [Number(-3), Prop(Text { text: \"w\" })] } }, target: Text { text: \"C\" }, within: false, number: 7, order: Some(Declared), split: Some(Every(2)), keep: Some(Text { text: \"K\" }) }] }",
+        "List { items: [Run { call: Call { name: Text { text: \"p\" }, args: List { items: [Number(-3), Prop(Text { text: \"w\" })] } }, target: Text { text: \"C\" }, within: false, number: 7, order: Some(Declared), split: Some(Every(2)), keep: Some(Text { text: \"K\" }), phases: None }] }",
     ),
     (
         "run p() on C within 007 rounds;",
-        "List { items: [Run { call: Call { name: Text { text: \"p\" }, args: List { items: [] } }, target: Text { text: \"C\" }, within: true, number: 7, order: None, split: None, keep: None }] }",
+        "List { items: [Run { call: Call { name: Text { text: \"p\" }, args: List { items: [] } }, target: Text { text: \"C\" }, within: true, number: 7, order: None, split: None, keep: None, phases: None }] }",
     ),
     (
         "append to C [w: window t from -1 to 9 width 4 step 2]; show order C; show work K;",
         "List { items: [Append { target: Text { text: \"C\" }, items: List { items: [Item { name: Text { text: \"w\" }, body: Window { prop: Text { text: \"t\" }, first: -1, last: 9, width: 4, step: 2 } }] } }, ShowOrder { name: Text { text: \"C\" } }, ShowWork { name: Text { text: \"K\" } }] }",
+    ),
+    (
+        "run p on C within 2 rounds order tree; run p on C within 2 rounds phases 03; show tree C;",
+        "List { items: [Run { call: Call { name: Text { text: \"p\" }, args: List { items: [] } }, target: Text { text: \"C\" }, within: true, number: 2, order: Some(Tree), split: None, keep: None, phases: None }, Run { call: Call { name: Text { text: \"p\" }, args: List { items: [] } }, target: Text { text: \"C\" }, within: true, number: 2, order: None, split: None, keep: None, phases: Some(3) }, ShowTree { name: Text { text: \"C\" } }] }",
+    ),
+    (
+        "insert edges 'it''s'; remove edges where y = 1; aggregate C group by \"by\"; aggregate C group by g sum w;",
+        "List { items: [Insert { file: Text { text: \"it's\" } }, Remove { rule: Compare(Edge(Text { text: \"y\" }), Eq, Number(1)) }, Aggregate { target: Text { text: \"C\" }, by: Text { text: \"by\" }, sum: None }, Aggregate { target: Text { text: \"C\" }, by: Text { text: \"g\" }, sum: Some(Text { text: \"w\" }) }] }",
     ),
 ];
 

@@ -1,17 +1,9 @@
-use Rattle.phrase_theory.specs.SequenceLaws.{passed_on, first_stuck, ◌▹◌, ◌▸◌}
-use Rattle.phrase_theory.specs.LevelLaws.{mapped_found, mapped_fails}
-use Rattle.gvdl_parser.specs.Statements.{script}
-use Rattle.gvdl_parser.proofs.StatementLaws.{statement_phrases}
+use Rattle.phrase_theory.specs.SequenceLaws.{passed_on}
+use Rattle.gvdl_parser.proofs.StatementLaws.{form_stuck, form_read}
 use Rattle.gvdl_parser.proofs.script.script.Goals as goal
 
-pub returns-in_err-loaded-clause-read : goal.returns-in_err-loaded-clause-read
-unfolding script
-returns-in_err-loaded-clause-read c = passed_on _ c.from_residual.ensures.1 (first_stuck (c.in_err-loaded.ensures c.args.levels) (λ m a. search statement_phrases depth 40))
-
-pub returns-in_err-statements-clause-read : goal.returns-in_err-statements-clause-read
-unfolding script
-returns-in_err-statements-clause-read c = passed_on _ c.from_residual-in_err-statements.ensures.1 ((c.in_ok-loaded.ensures c.args.levels) ▹ mapped_fails _ c.in_err-statements.ensures.read)
+pub returns-in_err-form-clause-read : goal.returns-in_err-form-clause-read
+returns-in_err-form-clause-read c = passed_on _ c.from_residual.ensures.1 (form_stuck (c.in_err-form.ensures c.args.levels))
 
 pub returns-clause-read : goal.returns-clause-read
-unfolding script
-returns-clause-read c = (c.in_ok-loaded.ensures c.args.levels) ▸ mapped_found _ c.in_ok-statements.ensures.read
+returns-clause-read c = form_read c.script_behind.result _ (c.in_ok-form.ensures c.args.levels) c.script_behind.ensures.read

@@ -1,10 +1,9 @@
-use Rattle.std.proofs.Common.{◌∙◌, ◌++◌, ◌∷◌, ◌-◌, [], Bool, true, false, ℕ, List, length, take, drop, sym, ap, append_assoc}
+use Rattle.std.proofs.Common.{◌∙◌, ◌++◌, ◌∷◌, ◌-◌, [], Bool, ℕ, List, length, take, drop, sym, ap, append_assoc}
 use Rattle.std.specs.Prelude.{nat_lt}
-use Rattle.gvdl_tokens.specs.declared.token.Sign.TheVariants as s
 use Rattle.gvdl_tokens.specs.declared.word.Word.TheVariants as w
 use Rattle.gvdl_tree.specs.declared.predicate.PredTree.{PredTree}
 use Rattle.gvdl_parser.specs.Terminals.{cmp_token, truth_token}
-use Rattle.gvdl_printer.specs.Layout.{Piece, plain, word, sign}
+use Rattle.gvdl_printer.specs.Layout.{Piece, plain, word}
 use Rattle.gvdl_printer.specs.Canonical.{enclosed, joined, operand_pieces, predicate_pieces}
 use Rattle.gvdl_printer.specs.Levels.{predicate_level}
 use Rattle.gvdl_printer.proofs.Equations.{predicate-Or, predicate-And, predicate-Not, predicate-Constant, predicate-Compare, predicate-Missing}
