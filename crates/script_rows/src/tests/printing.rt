@@ -113,7 +113,7 @@ fn both_texts(alloc: Global, name: &str) -> Result<List<u8>, Fail> {
 #[test]
 fn properties_and_strings(rt: HostRuntime) -> Result<(), Fail> {
     let named = both_texts(rt.alloc(), "city")?;
-    assert_eq!(rt; named.as_slice(), b"city 'city'");
+    assert_eq!(rt; named.as_slice(), "city 'city'".as_bytes());
     let quoted = both_texts(rt.alloc(), "O'Brien \"x\"")?;
     assert_eq!(rt;
         quoted.as_slice(),
