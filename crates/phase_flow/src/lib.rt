@@ -13,12 +13,14 @@
 mod flow;
 mod item;
 mod laws;
+mod looped;
 mod parts;
 mod rounds;
 
 pub use flow::{OnePhase, PhaseFlow, PhasePrep, phase_flow, phase_of, phases_over};
 pub use item::PhaseItem;
 pub use laws::{loop_is_phases, makes_phases, tells_phases};
+pub use looped::Looped;
 pub use parts::{Begins, Ends, Enters, InPhase};
 pub use phase_runs::phased;
 pub use rounds::{MakesRounds, StartFlows};

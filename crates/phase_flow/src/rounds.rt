@@ -5,11 +5,12 @@ ghost use Rattle.flow_core.specs.Runs.{IsFresh};
 ghost use Rattle.vertex_lang.specs.Leaves.{IsChecked};
 ghost use Rattle.flow_work.specs.Values.{start_apply};
 
+use crate::looped::Looped;
 use flow_core::Operator;
 use graph_model::{Graph, NodeNo, Val};
-use lattice_time::{Round, Time};
+use lattice_time::{Pair, Round, Time};
 use std::alloc::Global;
-use vertex_flow::{StartFlow, start_flow};
+use vertex_flow::{OneRound, StartPrep, start_flow};
 use vertex_items::{NodeItem, StartInput};
 use vertex_lang::{Arc, Program, Updater};
 
@@ -35,14 +36,14 @@ pub trait MakesRounds<'g, T: Time, U: Updater> {
 pub struct StartFlows;
 
 impl<'g, T: Time, U: Updater> MakesRounds<'g, T, U> for StartFlows {
-    type Flow = StartFlow<'g, T, U>;
+    type Flow = Looped<StartPrep<'g, T>, OneRound<'g, Pair<T, Round>, U>, T, U>;
 
     fn make(
         alloc: Global,
         graph: &'g Graph,
         program: &'g Program,
         rounds: u32,
-    ) -> StartFlow<'g, T, U> {
-        start_flow(alloc, graph, program, rounds)
+    ) -> Looped<StartPrep<'g, T>, OneRound<'g, Pair<T, Round>, U>, T, U> {
+        Looped::new(start_flow(alloc, graph, program, rounds))
     }
 }
