@@ -4,7 +4,6 @@
     tests/gate_minutes.py record FILE COMMAND..   runs a command, as `rt ci` or `rt must-fail NAME`, and notes in FILE what each of its provers took
     tests/gate_minutes.py watch FILE PROCESS      notes it of the provers below a process, until it is told to end
     tests/gate_minutes.py table FILE..            prints docs/ARCHITECTURE.md's table of what was noted
-    tests/gate_minutes.py order FILE..            prints tools/proof_minutes.txt
     tests/gate_minutes.py edits FILE..            prints what each edit took
 
 It looks twice a second at the processes below the command. Where several files are given their rooms are put together: of a room's proof,
@@ -171,13 +170,6 @@ def table(files):
         print(f"| {text} | {ratios[name]:.2f} | {BOUNDS[name]} |")
 
 
-def order(files):
-    whole, _ = minutes_in(files)
-    print("# Processor minutes of the proof of each room, as tests/gate_minutes.py measured them. tools/build.py orders the first build by them.")
-    for room in sorted(rooms_here(), key=lambda it: -whole.get(it, {}).get("proof", 0)):
-        print(f"{room} {max(0.1, whole.get(room, {}).get('proof', 0.1)):.1f}")
-
-
 def edit_names(room):
     folder = f"{TOP}/crates/{room}/must-fail"
     return sorted(it[: -len(".edit")] for it in os.listdir(folder) if it.endswith(".edit")) if os.path.isdir(folder) else []
@@ -201,7 +193,7 @@ def main(words):
         return record(words[1], words[2:])
     if len(words) == 3 and words[0] == "watch":
         return watch(*words[1:])
-    shown = {"table": table, "order": order, "edits": edits}
+    shown = {"table": table, "edits": edits}
     if len(words) >= 2 and words[0] in shown:
         shown[words[0]](words[1:])
         return 0

@@ -1,6 +1,5 @@
 pub mod Views
 pub mod RowLists
-pub mod Places
 pub mod Lives
 pub mod Links
 pub mod Listings
@@ -12,3 +11,5 @@ pub mod FilterLaws
 pub mod ViewLaws
 pub mod ListLaws
 pub mod CopyLaws
+-- What no public contract says: words of the contracts inside this room, public since the proofs of the room read them.
+pub mod Places

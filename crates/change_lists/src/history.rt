@@ -41,7 +41,7 @@ impl History {
         }
     }
 
-    /// The same, with room for a little more than another one holds. The error is want of memory.
+    /// An empty history with room for a little more than another one holds. The error is want of memory.
     pub fn beside(alloc: Global, other: &History) -> Result<History, NoMemory>
         ensures changes { IfOk result (λ h. h.changes ≡ []) }
         ensures marks { IfOk result (λ h. h.marks ≡ []) }

@@ -25,7 +25,7 @@ pub fn catch_up(before: &mut [Val], now: &[Val], changes: &[Change])
     catch_up_each(before, now, changes);
 }
 
-// The same, node by node.
+// Catches up node by node, which is less work where few changed.
 fn catch_up_each(before: &mut [Val], now: &[Val], changes: &[Change])
     requires size { length before.old ≡ length now.now }
     requires within { All (λ c. c.node.0 < length now.now) changes.now }

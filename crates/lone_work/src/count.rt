@@ -15,6 +15,13 @@ use std::alloc::Global;
 use surge_outside::NoMemory;
 use vertex_lang::{Arc, Program, Updater};
 
+// A node in a round.
+#[derive(Clone, Copy)]
+struct Spot {
+    node: u32,
+    round: u32,
+}
+
 /// The work of a view with these arcs, behind a view with those of `old` in its segment, in so many rounds (at most
 /// 1,000,000). The one error is want of memory.
 pub fn count_work<U: Updater>(
@@ -85,7 +92,15 @@ fn count_round<U: Updater>(
 {
     let mut count = 0;
     for node in 0..graph.node_count() {
-        let counted = is_counted(alloc, program, graph, new, old, node, round, updater)?;
+        let counted = is_counted(
+            alloc,
+            program,
+            graph,
+            new,
+            old,
+            Spot { node, round },
+            updater,
+        )?;
         count += one_if(counted);
     }
     Ok(count)
@@ -122,8 +137,7 @@ fn is_counted<U: Updater>(
     graph: &Graph,
     new: &[Arc],
     old: &[Arc],
-    node: u32,
-    round: u32,
+    spot: Spot,
     updater: &mut U,
 ) -> Result<bool, NoMemory>
     requires checked { IsChecked program.now graph.now }
@@ -131,13 +145,13 @@ fn is_counted<U: Updater>(
     requires old { All (IsArc graph.now) old.now }
     requires new_few { length new.now < 2 ^ 32 }
     requires old_few { length old.now < 2 ^ 32 }
-    requires node { node < length graph.now.ids }
-    requires limit { round < 1_000_000 }
-    ensures { IfOk result (λ b. b ≡ node_counted U.answer program.now graph.now new.now (Some old.now) node round) }
+    requires node { spot.node < length graph.now.ids }
+    requires limit { spot.round < 1_000_000 }
+    ensures { IfOk result (λ b. b ≡ node_counted U.answer program.now graph.now new.now (Some old.now) spot.node spot.round) }
 {
-    let touched = is_touched(alloc, program, graph, new, old, node, round, updater)?;
-    let active = is_active(alloc, program, graph, new, old, node, round, updater)?;
-    let marked = is_marked(alloc, program, graph, old, node, round, updater)?;
+    let touched = is_touched(alloc, program, graph, new, old, spot, updater)?;
+    let active = is_active(alloc, program, graph, new, old, spot, updater)?;
+    let marked = is_marked(alloc, program, graph, old, spot.node, spot.round, updater)?;
     Ok(both(touched, either(active, marked)))
 }
 
@@ -148,8 +162,7 @@ fn is_touched<U: Updater>(
     graph: &Graph,
     new: &[Arc],
     old: &[Arc],
-    node: u32,
-    round: u32,
+    spot: Spot,
     updater: &mut U,
 ) -> Result<bool, NoMemory>
     requires checked { IsChecked program.now graph.now }
@@ -157,13 +170,17 @@ fn is_touched<U: Updater>(
     requires old { All (IsArc graph.now) old.now }
     requires new_few { length new.now < 2 ^ 32 }
     requires old_few { length old.now < 2 ^ 32 }
-    requires node { node < length graph.now.ids }
-    requires limit { round < 1_000_000 }
-    ensures { IfOk result (λ b. b ≡ node_touched U.answer program.now graph.now new.now (Some old.now) node round) }
+    requires node { spot.node < length graph.now.ids }
+    requires limit { spot.round < 1_000_000 }
+    ensures { IfOk result (λ b. b ≡ node_touched U.answer program.now graph.now new.now (Some old.now) spot.node spot.round) }
 {
     let mut touched = false;
-    for earlier in 0..round + 1 {
-        let active = is_active(alloc, program, graph, new, old, node, earlier, updater)?;
+    for earlier in 0..spot.round + 1 {
+        let then = Spot {
+            node: spot.node,
+            round: earlier,
+        };
+        let active = is_active(alloc, program, graph, new, old, then, updater)?;
         touched = either(touched, active);
     }
     Ok(touched)
@@ -176,8 +193,7 @@ fn is_active<U: Updater>(
     graph: &Graph,
     new: &[Arc],
     old: &[Arc],
-    node: u32,
-    round: u32,
+    spot: Spot,
     updater: &mut U,
 ) -> Result<bool, NoMemory>
     requires checked { IsChecked program.now graph.now }
@@ -185,14 +201,14 @@ fn is_active<U: Updater>(
     requires old { All (IsArc graph.now) old.now }
     requires new_few { length new.now < 2 ^ 32 }
     requires old_few { length old.now < 2 ^ 32 }
-    requires node { node < length graph.now.ids }
-    requires limit { round < 1_000_000 }
-    ensures { IfOk result (λ b. b ≡ node_active U.answer program.now graph.now new.now (Some old.now) node round) }
+    requires node { spot.node < length graph.now.ids }
+    requires limit { spot.round < 1_000_000 }
+    ensures { IfOk result (λ b. b ≡ node_active U.answer program.now graph.now new.now (Some old.now) spot.node spot.round) }
 {
-    let new_now = state_at(alloc, program, graph, new, node, round, updater)?;
-    let old_now = state_at(alloc, program, graph, old, node, round, updater)?;
-    let new_before = state_before(alloc, program, graph, new, node, round, updater)?;
-    let old_before = state_before(alloc, program, graph, old, node, round, updater)?;
+    let new_now = state_at(alloc, program, graph, new, spot.node, spot.round, updater)?;
+    let old_now = state_at(alloc, program, graph, old, spot.node, spot.round, updater)?;
+    let new_before = state_before(alloc, program, graph, new, spot.node, spot.round, updater)?;
+    let old_before = state_before(alloc, program, graph, old, spot.node, spot.round, updater)?;
     let own = cancel(
         alloc,
         &new_now.own,

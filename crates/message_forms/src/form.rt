@@ -45,7 +45,7 @@ pub fn send(
     send_by(form_of(program), program, graph, tail, value, outdeg, edge)
 }
 
-/// The same, given the form of the message, which whoever sends for many nodes asks for once.
+/// The message of an arc, given its form, which whoever sends for many nodes asks for once.
 pub fn send_by(
     form: Form,
     program: &Program,

@@ -174,7 +174,7 @@ fn put_short(numbers: &mut [i32], place: usize, message: Val) -> bool
     }
 }
 
-// The same, held in eight bytes.
+// Gives nodes their new values and the messages that go with them, held in eight bytes each.
 fn follow_long(added: Option<i64>, now: &mut [Val], numbers: &mut [i64], changes: &[Change]) -> bool
     requires within { All (λ c. c.node.0 < length now.old) changes.now }
     requires messages { AreMessages added now.old numbers.old }
@@ -247,7 +247,7 @@ fn widen(short: i32) -> i64
     }
 }
 
-/// The same numbers in eight bytes each. The error is want of memory.
+/// Numbers of four bytes, each in eight bytes. The error is want of memory.
 pub fn lengthened(alloc: Global, list: &[i32]) -> Result<Vec<i64>, NoMemory>
     ensures { IfOk result (λ long. long.items ≡ map widened list.now) }
 {
@@ -271,7 +271,7 @@ fn tally_short(kind: Gather, numbers: &[i32], tails: &[NodeNo]) -> Tally
     }
 }
 
-// The same, whichever way it is gathered.
+// The least, the greatest, the sum and the count of numbers held in four bytes each.
 fn span_of_short(numbers: &[i32], tails: &[NodeNo]) -> Span
     requires few { length tails.now < 2 ^ 32 }
     requires tails { All (λ t. t.0 < length numbers.now) tails.now }
@@ -284,7 +284,7 @@ fn span_of_short(numbers: &[i32], tails: &[NodeNo]) -> Span
     span
 }
 
-// The same, held in eight bytes each.
+// What comes of arcs that bring the numbers of their tails, held in eight bytes each.
 fn tally_long(kind: Gather, numbers: &[i64], tails: &[NodeNo]) -> Tally
     requires few { length tails.now < 2 ^ 32 }
     requires tails { All (λ t. t.0 < length numbers.now) tails.now }
@@ -297,7 +297,7 @@ fn tally_long(kind: Gather, numbers: &[i64], tails: &[NodeNo]) -> Tally
     }
 }
 
-// The same, whichever way it is gathered.
+// The least, the greatest, the sum and the count of numbers held in eight bytes each.
 fn span_of_long(numbers: &[i64], tails: &[NodeNo]) -> Span
     requires few { length tails.now < 2 ^ 32 }
     requires tails { All (λ t. t.0 < length numbers.now) tails.now }

@@ -58,7 +58,7 @@ pub fn tally_links(kind: Gather, numbers: &[i64], links: &[Link]) -> Tally
     }
 }
 
-// The same, whichever way it is gathered.
+// The least, the greatest, the sum and the count of what these arcs bring.
 fn span_of_links(numbers: &[i64], links: &[Link]) -> Span
     requires few { length links.now < 2 ^ 32 }
     requires tails { All (λ l. l.tail.0 < length numbers.now) links.now }

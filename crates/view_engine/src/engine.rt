@@ -135,7 +135,7 @@ impl<'g> Engine<'g> {
         Ok(())
     }
 
-    // The same, but a refusal leaves the engine as it was.
+    // Assigns all further views to segments, or leaves the engine as it was where it refuses.
     fn assign_all(&mut self, matrix: &Matrix) -> Result<(), NoMemory>
         requires engine { IsEngine self.old }
         requires split { self.old.split ≢ SplitRule.Auto }

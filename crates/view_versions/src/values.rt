@@ -104,7 +104,7 @@ fn start_values(
     }
 }
 
-/// The same, by the program. The error is want of memory.
+/// The values with which the nodes start, evaluated by the program. The error is want of memory.
 pub(crate) fn starts_anew(
     alloc: Global,
     program: &Program,

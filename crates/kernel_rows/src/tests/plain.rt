@@ -136,7 +136,7 @@ fn texts<U: Updater>(
     Ok(format!(in alloc; "{run}{works}")?)
 }
 
-// The same of hop counts from the node 1, where the views are of the graph.
+// The plain run and the work of hop counts from the node 1, where the views are of the graph.
 fn plain_text<U: Updater>(
     alloc: Global,
     graph: &Graph,

@@ -132,7 +132,7 @@ fn steps<U: Updater>(
     joined(alloc, &stepped, later.as_str())
 }
 
-// The same of hop counts from the node 1, where the views are of the graph.
+// Two steps of hop counts from the node 1, where the views are of the graph.
 fn hop_steps<U: Updater>(
     alloc: Global,
     graph: &Graph,
