@@ -1,64 +1,37 @@
 //! A loop behind a quiet part, as one operator.
 
-ghost use Rattle.std.specs.Prelude.{◌≡◌, [], refl};
+ghost use Rattle.std.specs.Prelude.{[], refl};
 ghost use Rattle.flow_core.specs.ChainLaws.{chain_answers};
 ghost use Rattle.flow_core.specs.PartLaws.{parts_idle, parts_paid};
 ghost use Rattle.flow_core.specs.Parts.{link_first, link_second, link_whole};
 ghost use Rattle.flow_core.specs.Quietly.{quiet_answers, quiet_idle, quiet_paid};
-ghost use Rattle.flow_core.specs.Runs.{IsFresh};
 ghost use Rattle.loop_theory.specs.LoopLaws.{loop_respects, none_outer, seal_below};
 ghost use Rattle.loop_theory.specs.RunLaws.{laps_answers};
 ghost use Rattle.loop_theory.specs.Underway.{laps_idle};
 
 use diff_iterate::Iterate;
 use flow_core::{Chain, NoCalls, Operator, Quiet};
+use graph_model::{NodeNo, Val};
 use lattice_time::{Pair, Round, Time};
-use loop_theory::LoopInput;
-use surge_outside::{Counted, NoMemory, Record};
+use surge_outside::{Counted, NoMemory};
+use vertex_parts::InLoop;
 use weighted::Batch;
 
 /// A quiet part, and a loop over what it makes, as one operator: a bound that names it need not name the chain of the two.
 #[derive(Drop)]
 pub struct Looped<P, B: Operator<Pair<T, Round>, U>, T: Time, U: Counted> {
-    flow: Chain<Quiet<P>, Iterate<B, T, U>>,
+    pub(crate) flow: Chain<Quiet<P>, Iterate<B, T, U>>,
 }
 
 impl<
     T: Time,
     U: Counted,
-    F: Record,
-    X: Record,
-    P: Operator<T, NoCalls, Output = LoopInput<F, X>>,
-    B: Operator<Pair<T, Round>, U, Input = LoopInput<F, X>, Output = X>,
-> Looped<P, B, T, U>
-where
-    LoopInput<F, X>: Record + Ord + Eq + PartialOrd + PartialEq,
-{
-    /// The operator of a chain that was not stepped yet. It takes no memory.
-    pub fn new(flow: Chain<Quiet<P>, Iterate<B, T, U>>) -> Looped<P, B, T, U>
-        requires { let it = ⟦<Chain<Quiet<P>, Iterate<B, T, U>> as Operator<T, U>>⟧ in IsFresh it.stands it.due it.seal it.spent T.least flow }
-        ensures fresh { let it = ⟦<Looped<P, B, T, U> as Operator<T, U>>⟧ in IsFresh it.stands it.due it.seal it.spent T.least result }
-        ensures apply { ⟦<Looped<P, B, T, U> as Operator<T, U>>⟧.apply result ≡ ⟦<Chain<Quiet<P>, Iterate<B, T, U>> as Operator<T, U>>⟧.apply flow }
-        ensures charge { ⟦<Looped<P, B, T, U> as Operator<T, U>>⟧.charge result ≡ ⟦<Chain<Quiet<P>, Iterate<B, T, U>> as Operator<T, U>>⟧.charge flow }
-    {
-        Looped { flow }
-    }
-}
-
-impl<
-    T: Time,
-    U: Counted,
-    F: Record,
-    X: Record,
-    P: Operator<T, NoCalls, Output = LoopInput<F, X>>,
-    B: Operator<Pair<T, Round>, U, Input = LoopInput<F, X>, Output = X>,
-> Operator<T, U> for Looped<P, B, T, U>
-where
-    LoopInput<F, X>: Record + Ord + Eq + PartialOrd + PartialEq,
-{
+    P: Operator<T, NoCalls, Output = InLoop>,
+    B: Operator<Pair<T, Round>, U, Input = InLoop, Output = (NodeNo, Val)>,
+> Operator<T, U> for Looped<P, B, T, U> {
     type Input = P::Input;
 
-    type Output = (Round, X);
+    type Output = (Round, (NodeNo, Val));
 
     ghost stands = { λ s. ⟦<Chain<Quiet<P>, Iterate<B, T, U>> as Operator<T, U>>⟧.stands s.flow };
 
@@ -87,7 +60,7 @@ where
         t: T,
         delta: &Batch<P::Input>,
         updater: &mut U,
-    ) -> Result<Batch<(Round, X)>, NoMemory> {
+    ) -> Result<Batch<(Round, (NodeNo, Val))>, NoMemory> {
         self.flow.step(t, delta, updater)
     }
 
@@ -96,7 +69,7 @@ where
     }
 
     fn seal(&mut self, f: T) -> Result<(), NoMemory> {
-        Operator::<T, U>::seal(&mut self.flow, f)
+        self.flow.seal(f)
     }
 
     fn is_spent(&self) -> bool {

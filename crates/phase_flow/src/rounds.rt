@@ -44,6 +44,8 @@ impl<'g, T: Time, U: Updater> MakesRounds<'g, T, U> for StartFlows {
         program: &'g Program,
         rounds: u32,
     ) -> Looped<StartPrep<'g, T>, OneRound<'g, Pair<T, Round>, U>, T, U> {
-        Looped::new(start_flow(alloc, graph, program, rounds))
+        Looped {
+            flow: start_flow(alloc, graph, program, rounds),
+        }
     }
 }

@@ -1,9 +1,10 @@
--- The function and the charge are those of the loop inside.
-use Rattle.std.proofs.Common.{◌∙◌}
+-- The loop inside is a new one.
 use Rattle.phase_flow.proofs.rounds.StartFlowsMakesRounds.make.Goals as goal
 
-pub returns-clause-apply : goal.returns-clause-apply
-returns-clause-apply g c = c.new.ensures.apply ∙ c.start_flow.ensures.apply
-
-pub returns-clause-charge : goal.returns-clause-charge
-returns-clause-charge g c = c.new.ensures.charge ∙ c.start_flow.ensures.charge
+pub returns-clause-fresh : goal.returns-clause-fresh
+returns-clause-fresh g c = record {
+  is_new = c.start_flow.ensures.fresh.is_new;
+  nothing_due = c.start_flow.ensures.fresh.nothing_due;
+  at_least = c.start_flow.ensures.fresh.at_least;
+  live = c.start_flow.ensures.fresh.live;
+}
