@@ -42,12 +42,28 @@ static bool round_of(const std::vector<Arc> &arcs, const std::vector<i64> &start
     return changed;
 }
 
-static std::vector<i64> phases(const std::vector<Arc> &arcs, std::vector<i64> starts, i64 step, int rounds, int count) {
+// The start and how many arcs come.
+static bool count_round(const std::vector<Arc> &arcs, const std::vector<i64> &starts, std::vector<i64> &values, std::vector<i64> &mail) {
+    std::fill(mail.begin(), mail.end(), 0);
+    for (const Arc &a : arcs) mail[a.head] += 1;
+    bool changed = false;
+    for (u32 v = 0; v < NODES; v++) {
+        i64 next = starts[v] + mail[v];
+        if (next != values[v]) changed = true, values[v] = next;
+    }
+    return changed;
+}
+
+// What is run: hop counts from the first node, components along edges both ways, or sums of arcs.
+enum Kind { HOPS, PARTS, COUNTS };
+
+static std::vector<i64> phases(const std::vector<Arc> &arcs, std::vector<i64> starts, Kind kind, int rounds, int count) {
     std::vector<i64> values, mail(NODES);
     for (int phase = 0; phase < count; phase++) {
         values = starts;
         bool quiet = false;
-        for (int r = 0; r < rounds && !quiet; r++) quiet = !round_of(arcs, starts, values, mail, step);
+        for (int r = 0; r < rounds && !quiet; r++)
+            quiet = !(kind == COUNTS ? count_round(arcs, starts, values, mail) : round_of(arcs, starts, values, mail, kind == HOPS ? 1 : 0));
         if (!quiet) return {};
         if (values == starts) break;
         starts = values;
@@ -55,12 +71,11 @@ static std::vector<i64> phases(const std::vector<Arc> &arcs, std::vector<i64> st
     return values;
 }
 
-static void run(const char *name, const std::vector<Edge> &edges, bool both, i64 step, u32 apart, int count, i64 &sum, u64 &time) {
-    std::vector<i64> starts(NODES, NONE), values;
-    for (u32 v = 0; v < NODES; v++)
-        if (both) starts[v] = v + 1;
-    if (!both) starts[0] = 0;
-    (void)name;
+static void run(const std::vector<Edge> &edges, Kind kind, u32 apart, int rounds, int count, i64 &sum, u64 &time) {
+    std::vector<i64> starts(NODES, kind == HOPS ? NONE : 1), values;
+    if (kind == HOPS) starts[0] = 0;
+    if (kind == PARTS)
+        for (u32 v = 0; v < NODES; v++) starts[v] = v + 1;
     sum = 0;
     u64 start = now();
     std::vector<std::vector<i64>> kept;
@@ -71,9 +86,9 @@ static void run(const char *name, const std::vector<Edge> &edges, bool both, i64
             for (const Edge &e : edges)
                 if (from <= e.t && e.t < from + 850) {
                     arcs.push_back({e.s, e.d});
-                    if (both) arcs.push_back({e.d, e.s});
+                    if (kind == PARTS) arcs.push_back({e.d, e.s});
                 }
-            values = phases(arcs, starts, step, 100, count);
+            values = phases(arcs, starts, kind, rounds, count);
         }
         kept.push_back(values);
     }
@@ -92,12 +107,14 @@ int main() {
         e.d = (u32)(first * second / NODES);
         e.t = draw(state) % 1000;
     }
-    i64 sums[3];
-    u64 times[3];
-    run("hops_windows", edges, false, 1, 10, 2, sums[0], times[0]);
-    run("hops_equal", edges, false, 1, 0, 2, sums[1], times[1]);
-    run("wcc_windows", edges, true, 0, 10, 5, sums[2], times[2]);
-    printf("sums: %lld, %lld, %lld\n", (long long)sums[0], (long long)sums[1], (long long)sums[2]);
-    printf("hops_windows %llu\nhops_equal %llu\nwcc_windows %llu\n", (unsigned long long)times[0], (unsigned long long)times[1], (unsigned long long)times[2]);
+    i64 sums[4];
+    u64 times[4];
+    run(edges, HOPS, 10, 100, 2, sums[0], times[0]);
+    run(edges, HOPS, 0, 100, 2, sums[1], times[1]);
+    run(edges, PARTS, 10, 100, 5, sums[2], times[2]);
+    run(edges, COUNTS, 10, 2, 5, sums[3], times[3]);
+    printf("sums: %lld, %lld, %lld, %lld\n", (long long)sums[0], (long long)sums[1], (long long)sums[2], (long long)sums[3]);
+    const char *names[4] = {"hops_windows", "hops_equal", "wcc_windows", "grow_windows"};
+    for (int i = 0; i < 4; i++) printf("%s %llu\n", names[i], (unsigned long long)times[i]);
     return 0;
 }

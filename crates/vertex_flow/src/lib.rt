@@ -13,6 +13,7 @@ mod flow;
 mod inside;
 mod items;
 mod laws;
+mod mapped;
 mod prep;
 mod rounds;
 
@@ -22,5 +23,6 @@ pub use flow::{
 pub use inside::{inner_run, start_run};
 pub use items::{Items, Messages, Routed};
 pub use laws::{tells_starts, tells_values};
+pub use mapped::MappedReduce;
 pub use prep::{FlowPrep, Prep, StartPrep, Told};
 pub use rounds::last_round;

@@ -6,8 +6,9 @@ ghost use Rattle.vertex_lang.specs.Leaves.{IsChecked};
 ghost use Rattle.flow_core.specs.Expanded.{expanded};
 ghost use Rattle.view_items.specs.Prepared.{arcs_in_loop, prepared, prepared_starts};
 
+use crate::mapped::MappedReduce;
 use diff_reduce::Reduce;
-use flow_core::{Bypass, Chain, Expand, Map, NoCalls, Operator};
+use flow_core::{Bypass, Expand, Map, NoCalls, Operator};
 use graph_model::{Graph, NodeNo};
 use lattice_time::Time;
 use std::alloc::Global;
@@ -17,10 +18,7 @@ use vertex_lang::{Arc, Program, names_outdeg};
 use vertex_parts::{ArcInLoop, Degrees, FlowTails, InLoop, NodeBegins, StartBegins, StartTails};
 
 /// Arcs by their tails, each with what is told of its tail, as they stand in the loop.
-pub type Told<T> = Chain<
-    Reduce<Degrees, T, NoCalls>,
-    Map<ArcInLoop, (NodeNo, (Arc, u64)), InLoop, T, NoCalls>,
->;
+pub type Told<T> = MappedReduce<Degrees, ArcInLoop, InLoop, T>;
 
 /// What comes into the loop: what begins goes past the arcs.
 pub type Prep<B, E, I, T> = Bypass<B, E, I, Told<T>>;
@@ -35,7 +33,7 @@ fn told_of<T: Time>(alloc: Global, program: &Program) -> Told<T>
         Degrees::new(names_outdeg(&program.send)),
     );
     let arcs: Map<ArcInLoop, (NodeNo, (Arc, u64)), InLoop, T, NoCalls> = Map::new(alloc, ArcInLoop);
-    Chain::new::<T, NoCalls>(degrees, arcs)
+    MappedReduce::new(degrees, arcs)
 }
 
 /// What comes into the loop, from one function of what begins and one of the arcs by their tails. It takes no memory;

@@ -1,0 +1,4 @@
+pub mod Items
+pub mod ItemOrders
+pub mod Phases
+pub mod PhaseLaws
