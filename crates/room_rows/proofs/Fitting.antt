@@ -36,10 +36,7 @@ share_tree_fits p plus base factor divisor is =
     refl
 
 -- from the parts of the tree, as they are made
-pub share_fits : (p : Program) (plus : Bool) (n g : Expr) (rest factors : List (Bool × Expr)) (base factor divisor : ℤ) → p.update ≡ expr.Sum n rest → n ≡ expr.Number base → rest ≡ (plus, expr.Product g factors) ∷ [] → g ≡ expr.Gathered → factors ≡ (true, expr.Number factor) ∷ (false, expr.Number divisor) ∷ [] → IsUpdate p
-share_fits p plus n g rest factors base factor divisor is number chain gathered members =
+pub share_fits : (p : Program) (plus : Bool) (base factor divisor : ℤ) (share : Expr) (rest : List (Bool × Expr)) → p.update ≡ expr.Sum (expr.Number base) rest → rest ≡ (plus, share) ∷ [] → share ≡ expr.Product expr.Gathered ((true, expr.Number factor) ∷ (false, expr.Number divisor) ∷ []) → IsUpdate p
+share_fits p plus base factor divisor share rest is more what =
     share_tree_fits p plus base factor divisor
-    (is ∙ ap (λ (e : Expr). expr.Sum e rest) number
-    ∙ ap (λ (ms : List (Bool × Expr)). expr.Sum (expr.Number base) ms) chain
-    ∙ ap (λ (e : Expr). expr.Sum (expr.Number base) ((plus, expr.Product e factors) ∷ [])) gathered
-    ∙ ap (λ (ms : List (Bool × Expr)). expr.Sum (expr.Number base) ((plus, expr.Product expr.Gathered ms) ∷ [])) members)
+    (is ∙ ap (λ (ms : List (Bool × Expr)). expr.Sum (expr.Number base) ms) (more ∙ ap (λ (e : Expr). (plus, e) ∷ []) what))

@@ -3,11 +3,9 @@
 mod changes;
 mod drawn;
 mod files;
-mod graphs;
 mod one_multiset;
 mod phases;
 mod pieces;
-mod programs;
 mod results;
 mod small_graphs;
 mod splits;

@@ -1,8 +1,9 @@
 //! Change texts of a few lines, against answers that were worked out by hand or by a plain reader.
 
-ghost use Rattle.std.specs.Prelude.{◌≡◌, ◌<◌, length, IfOk, IfSome};
+ghost use Rattle.std.specs.Prelude.{◌≡◌, ◌<◌, length, IfSome};
 
 use crate::tests::small_graphs::two_edges;
+use crate::tests::tables::table;
 use change_text::{
     ChangeText, ReplayError, ReplayFault, ReplayStop, read_changes, replay, write_change,
 };
@@ -85,50 +86,50 @@ fn first_bad_lines(rt: HostRuntime) -> Result<(), Fail> {
 
 // ---- a text that is cut at each byte, and whose bytes are exchanged
 
-const BLOCKS: &[u8] =
-    b"view x settled 0\n1,0\n7,-\nend\nchange x after 13\n1,-5\n7,20\nend\nview y unsettled\nend\n";
+const BLOCKS: &str =
+    "view x settled 0\n1,0\n7,-\nend\nchange x after 13\n1,-5\n7,20\nend\nview y unsettled\nend\n";
 
 // The first bad line of each beginning of the text, or 0, as a hexadecimal digit.
-const CUT: &[u8] =
-    b"011111111111111112222333344440555555555555555556666677777888809999999999999999aaaa0";
+const CUT: &str =
+    "011111111111111112222333344440555555555555555556666677777888809999999999999999aaaa0";
 
 // The same with the byte at each place exchanged for this one. (Both are printed by `tests/oracle/changes.py --table`.)
-const EXCHANGED: [(u8, &[u8]); 9] = [
+const EXCHANGED: [(u8, &str); 9] = [
     (
         b'0',
-        b"111110111111111016202330344445555555055555555056666677707888899999099999999999aaaa",
+        "111110111111111016202330344445555555055555555056666677707888899999099999999999aaaa",
     ),
     (
         b'1',
-        b"111110111111111010202330344445555555055555550050600677007888899999099999999999aaaa",
+        "111110111111111010202330344445555555055555550050600677007888899999099999999999aaaa",
     ),
     (
         b'9',
-        b"111110111111111013202730344445555555055555550056600677007888899999099999999999aaaa",
+        "111110111111111013202730344445555555055555550056600677007888899999099999999999aaaa",
     ),
     (
         b'-',
-        b"111110111111111112202330344445555555055555555556606677777888899999099999999999aaaa",
+        "111110111111111112202330344445555555055555555556606677777888899999099999999999aaaa",
     ),
     (
         b',',
-        b"111110111111111112022303344445555555055555555556066670777888899999099999999999aaaa",
+        "111110111111111112022303344445555555055555555556066670777888899999099999999999aaaa",
     ),
     (
         b' ',
-        b"111100011111110112222333344445555550005555505556666677777888899990009999999999aaaa",
+        "111100011111110112222333344445555550005555505556666677777888899990009999999999aaaa",
     ),
     (
         b'\n',
-        b"111111111111111102220333044405555555555555555606667077780888099999999999999990aaa0",
+        "111111111111111102220333044405555555555555555606667077780888099999999999999990aaa0",
     ),
     (
         b'e',
-        b"1101101101110111122223333044455555050555505555566666777770888990990999909990990aaa",
+        "1101101101110111122223333044455555050555505555566666777770888990990999909990990aaa",
     ),
     (
         b'~',
-        b"111110111111111112222333344445555555055555555556666677777888899999099999999999aaaa",
+        "111110111111111112222333344445555555055555555556666677777888899999099999999999aaaa",
     ),
 ];
 
@@ -150,9 +151,14 @@ fn lines_of_cuts(alloc: Global, text: &[u8]) -> Result<Vec<u8>, Fail> {
     Ok(lines)
 }
 
+// Whether the beginnings of a text have these first bad lines.
+fn has_lines_of_cuts(alloc: Global, text: &[u8], lines: &str) -> Result<bool, Fail> {
+    Ok(lines_of_cuts(alloc, text)?.as_slice() == lines.as_bytes())
+}
+
 #[test]
 fn a_text_that_is_cut(rt: HostRuntime) -> Result<(), Fail> {
-    assert!(rt; lines_of_cuts(rt.alloc(), BLOCKS)?.as_slice() == CUT);
+    assert!(rt; has_lines_of_cuts(rt.alloc(), BLOCKS.as_bytes(), CUT)?);
     Ok(())
 }
 
@@ -177,19 +183,24 @@ fn lines_with_byte(alloc: Global, text: &[u8], byte: u8) -> Result<Vec<u8>, Fail
     Ok(lines)
 }
 
-// The first of these bytes with which a text has other first bad lines.
-fn first_byte_wrong(alloc: Global, text: &[u8], rows: &[(u8, &[u8])]) -> Result<Option<u8>, Fail> {
-    for (byte, lines) in rows {
-        if lines_with_byte(alloc, text, *byte)?.as_slice() != *lines {
-            return Ok(Some(*byte));
+// Whether a text with this byte at each place has these first bad lines.
+fn has_lines(alloc: Global, text: &[u8], byte: u8, lines: &str) -> Result<bool, Fail> {
+    Ok(lines_with_byte(alloc, text, byte)?.as_slice() == lines.as_bytes())
+}
+
+// How many of the first rows have the right first bad lines, up to the first row that has not.
+fn right_rows(alloc: Global, text: &[u8], rows: &[(u8, &str)]) -> Result<usize, Fail> {
+    for (place, (byte, lines)) in rows.iter().enumerate() {
+        if !has_lines(alloc, text, *byte, lines)? {
+            return Ok(place);
         }
     }
-    Ok(None)
+    Ok(rows.len())
 }
 
 #[test]
 fn bytes_that_are_exchanged(rt: HostRuntime) -> Result<(), Fail> {
-    assert_eq!(rt; first_byte_wrong(rt.alloc(), BLOCKS, &EXCHANGED)?, None);
+    assert_eq!(rt; right_rows(rt.alloc(), BLOCKS.as_bytes(), &EXCHANGED)?, 9);
     Ok(())
 }
 
@@ -237,14 +248,6 @@ end
 
 const HEAD: &[u8] = b"view C.v hops(3)";
 
-// The table of -5 and this value.
-fn table(alloc: Global, outcome: Outcome, value: Val) -> Result<Table, NoMemory>
-    ensures { IfOk result (λ t. length t.values ≡ 2) }
-{
-    let values = List::from_vec(Vec::from_slice(alloc, &[LOW, value])?);
-    Ok(Table { outcome, values })
-}
-
 // Writes the block of a table behind another one or none.
 fn write_block(
     alloc: Global,
@@ -263,14 +266,29 @@ fn write_block(
     Ok(())
 }
 
+// Writes the block of the table with this value behind another one.
+fn write_behind(
+    alloc: Global,
+    graph: &Graph,
+    before: &Table,
+    outcome: Outcome,
+    value: Val,
+    sink: &mut SureSink,
+) -> Result<(), Fail>
+    requires nodes { length graph.now.ids ≡ 2 }
+    requires before { length before.now.values ≡ 2 }
+{
+    let table = table(alloc, outcome, LOW, value)?;
+    write_block(alloc, graph, Some(before), &table, sink)
+}
+
 // Writes the block of a row.
 fn write_row(alloc: Global, graph: &Graph, row: Row, sink: &mut SureSink) -> Result<(), Fail>
     requires { length graph.now.ids ≡ 2 }
 {
     let (earlier, old, outcome, new) = row;
-    let before = table(alloc, earlier, old)?;
-    let table = table(alloc, outcome, new)?;
-    write_block(alloc, graph, Some(&before), &table, sink)
+    let before = table(alloc, earlier, LOW, old)?;
+    write_behind(alloc, graph, &before, outcome, new, sink)
 }
 
 // Writes the blocks of rows.
@@ -287,7 +305,7 @@ fn write_rows(alloc: Global, graph: &Graph, rows: &[Row], sink: &mut SureSink) -
 fn write_first(alloc: Global, graph: &Graph, sink: &mut SureSink) -> Result<(), Fail>
     requires { length graph.now.ids ≡ 2 }
 {
-    let table = table(alloc, Outcome::Settled(4), Val::Nil)?;
+    let table = table(alloc, Outcome::Settled(4), LOW, Val::Nil)?;
     write_block(alloc, graph, None, &table, sink)
 }
 
@@ -327,21 +345,20 @@ fn replayed(alloc: Global, changes: &ChangeText) -> Result<SureSink, Fail> {
     Ok(sink)
 }
 
-// Whether these are the tables of a text.
-fn has_tables(alloc: Global, text: &[u8], tables: &[u8]) -> Result<bool, Fail> {
-    let changes = changes_of(alloc, text)?;
-    let sink = replayed(alloc, &changes)?;
-    Ok(sink.bytes() == tables)
+// The tables of a text.
+fn tables_of(alloc: Global, text: &str) -> Result<SureSink, Fail> {
+    let changes = changes_of(alloc, text.as_bytes())?;
+    replayed(alloc, &changes)
 }
 
 // The tables of the blocks that are cut and exchanged above.
-const TABLES: &[u8] =
-    b"view x settled 0\n1,0\n7,-\nend\nview x after 13\n1,-5\n7,20\nend\nview y unsettled\nend\n";
+const TABLES: &str =
+    "view x settled 0\n1,0\n7,-\nend\nview x after 13\n1,-5\n7,20\nend\nview y unsettled\nend\n";
 
 #[test]
 fn tables_of_texts(rt: HostRuntime) -> Result<(), Fail> {
-    assert!(rt; has_tables(rt.alloc(), b"", b"")?);
-    assert!(rt; has_tables(rt.alloc(), BLOCKS, TABLES)?);
+    assert!(rt; tables_of(rt.alloc(), "")?.bytes() == "".as_bytes());
+    assert!(rt; tables_of(rt.alloc(), BLOCKS)?.bytes() == TABLES.as_bytes());
     Ok(())
 }
 
@@ -355,15 +372,15 @@ fn interrupted(alloc: Global, changes: &ChangeText) -> Result<MemorySink, Fail> 
     }
 }
 
-// Whether this is written of a text before the third write fails.
-fn ends_with(alloc: Global, text: &[u8], written: &[u8]) -> Result<bool, Fail> {
-    let changes = changes_of(alloc, text)?;
-    let sink = interrupted(alloc, &changes)?;
-    Ok(sink.bytes() == written)
+// What is written of a text before the third write fails.
+fn front_of(alloc: Global, text: &str) -> Result<MemorySink, Fail> {
+    let changes = changes_of(alloc, text.as_bytes())?;
+    interrupted(alloc, &changes)
 }
 
 #[test]
 fn a_write_that_fails(rt: HostRuntime) -> Result<(), Fail> {
-    assert!(rt; ends_with(rt.alloc(), b"view x settled 0\n1,0\nend\n", b"view x s")?);
+    let front = front_of(rt.alloc(), "view x settled 0\n1,0\nend\n")?;
+    assert!(rt; front.bytes() == "view x s".as_bytes());
     Ok(())
 }

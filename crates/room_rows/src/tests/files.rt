@@ -136,54 +136,70 @@ fn is_whole<F: Files>(
     }
 }
 
-/// A fetch into a buffer of so many bytes, its answer, and what stands at the front of the buffer then.
-#[derive(Clone, Copy)]
-struct Fetch<'a> {
-    name: &'a str,
+/// A fetch: what follows the name of the file in hand, or another name (false), from which place, and into a buffer of how many
+/// bytes.
+type Fetch = (bool, &'static str, u64, usize);
+
+/// The name of a fetch.
+fn full_name(alloc: Global, file: &str, is_behind: bool, name: &str) -> Result<String, AllocError> {
+    if is_behind {
+        format!(in alloc; "{file}{name}")
+    } else {
+        String::from_str(alloc, name)
+    }
+}
+
+/// What a fetch gave: the bytes, - where there is no such file, and ! where the call failed.
+fn answer_text(
+    alloc: Global,
+    answer: Result<Fetched, Trouble>,
+    buf: &[u8],
+) -> Result<Vec<u8>, AllocError> {
+    match answer {
+        Ok(Fetched::Bytes(count)) => Vec::from_slice(alloc, &buf[..count.min(buf.len())]),
+        Ok(Fetched::Absent) => Vec::from_slice(alloc, b"-"),
+        Err(_) => Vec::from_slice(alloc, b"!"),
+    }
+}
+
+/// What comes of a fetch into a buffer of at most eight bytes.
+fn fetched<F: Files>(
+    alloc: Global,
+    files: &mut F,
+    name: &str,
     at: u64,
     room: usize,
-    answer: Result<Fetched, Trouble>,
-    bytes: &'a str,
-}
-
-/// A fetch that gives these bytes.
-fn gives<'a>(name: &'a str, at: u64, room: usize, bytes: &'a str) -> Fetch<'a> {
-    let answer = Ok(Fetched::Bytes(bytes.len()));
-    Fetch {
-        name,
-        at,
-        room,
-        answer,
-        bytes,
-    }
-}
-
-/// A fetch from the start that gives nothing.
-fn refuses(name: &str, answer: Result<Fetched, Trouble>) -> Fetch<'_> {
-    Fetch {
-        name,
-        at: 0,
-        room: 3,
-        answer,
-        bytes: "",
-    }
-}
-
-/// Whether that comes of a fetch.
-fn is_so<F: Files>(files: &mut F, fetch: Fetch<'_>) -> bool {
+) -> Result<Vec<u8>, AllocError> {
     let mut buf = [0u8; 8];
-    let answer = files.fetch(fetch.name, fetch.at, &mut buf[..fetch.room.min(8)]);
-    answer == fetch.answer && buf.starts_with(fetch.bytes.as_bytes())
+    let answer = files.fetch(name, at, &mut buf[..room.min(8)]);
+    answer_text(alloc, answer, &buf)
 }
 
-/// Whether that comes of each of these, one after the other.
-fn are_so<F: Files>(files: &mut F, fetches: &[Fetch<'_>]) -> bool {
+/// The same of a fetch in a table.
+fn fetched_of<F: Files>(
+    alloc: Global,
+    files: &mut F,
+    file: &str,
+    fetch: Fetch,
+) -> Result<Vec<u8>, AllocError> {
+    let (is_behind, name, at, room) = fetch;
+    let name = full_name(alloc, file, is_behind, name)?;
+    fetched(alloc, files, name.as_str(), at, room)
+}
+
+/// What comes of each of these, one after the other.
+fn all_fetched<F: Files>(
+    alloc: Global,
+    files: &mut F,
+    file: &str,
+    fetches: &[Fetch],
+) -> Result<Vec<u8>, AllocError> {
+    let mut text = Vec::new(alloc);
     for fetch in fetches {
-        if !is_so(files, *fetch) {
-            return false;
-        }
+        text.extend_from_slice(fetched_of(alloc, files, file, *fetch)?.as_slice())?;
+        text.push(b';')?;
     }
-    true
+    Ok(text)
 }
 
 /// Files that give pieces of three bytes, and of whose calls the second fails.
@@ -192,19 +208,24 @@ fn failing_files(alloc: Global) -> Result<MemoryFiles, Fail> {
     Ok(MemoryFiles::new(two_files(alloc)?, 3, fails))
 }
 
+const FROM_MEMORY: [Fetch; 7] = [
+    (false, "greeting", 1, 8),
+    (false, "greeting", 0, 3),
+    (false, "greeting", 4, 8),
+    (false, "greeting", 5, 8),
+    (false, "greeting", u64::MAX, 8),
+    (false, "empty", 0, 8),
+    (false, "other", 0, 3),
+];
+
+fn fetched_from_memory(alloc: Global) -> Result<Vec<u8>, Fail> {
+    let mut files = failing_files(alloc)?;
+    Ok(all_fetched(alloc, &mut files, "", &FROM_MEMORY)?)
+}
+
 #[test]
 fn memory_files_give_pieces_and_fail_where_they_are_told(rt: HostRuntime) -> Result<(), Fail> {
-    let mut files = failing_files(rt.alloc())?;
-    let fetches = [
-        gives("greeting", 1, 8, "ell"),
-        refuses("greeting", Err(Trouble::Failed)),
-        gives("greeting", 4, 8, "o"),
-        gives("greeting", 5, 8, ""),
-        gives("greeting", u64::MAX, 8, ""),
-        gives("empty", 0, 8, ""),
-        refuses("other", Ok(Fetched::Absent)),
-    ];
-    assert!(rt; are_so(&mut files, &fetches));
+    assert!(rt; fetched_from_memory(rt.alloc())?.as_slice() == "ell;!;o;;;;-;".as_bytes());
     Ok(())
 }
 
@@ -224,53 +245,45 @@ fn sure_files_are_read_whole(rt: HostRuntime) -> Result<(), Fail> {
 }
 
 #[test]
-fn endless_files_fill_every_buffer(rt: HostRuntime) {
+fn endless_files_fill_every_buffer(rt: HostRuntime) -> Result<(), Fail> {
     let mut files = EndlessFiles::new(32);
-    assert!(rt; is_so(&mut files, gives("any", 7, 3, "   ")));
+    assert!(rt; fetched(rt.alloc(), &mut files, "any", 7, 3)?.as_slice() == "   ".as_bytes());
+    Ok(())
 }
 
-/// Whether `abcdefg` is read in pieces, each from where the last one ended, and then again from places before.
-fn gives_pieces<F: Files>(files: &mut F, name: &str) -> bool {
-    let fetches = [
-        gives(name, 0, 2, "ab"),
-        gives(name, 2, 3, "cde"),
-        gives(name, 5, 3, "fg"),
-        gives(name, 7, 3, ""),
-        gives(name, 0, 3, "abc"),
-        gives(name, 5, 1, "f"),
-        gives(name, 9, 3, ""),
-    ];
-    are_so(files, &fetches)
-}
+/// Fetches of a file that holds `abcdefg`: pieces, each from where the last one ended, and then again from places before; names
+/// of no file, which are refused; and the file once more behind them.
+const FROM_DISK: [Fetch; 13] = [
+    (true, "", 0, 2),
+    (true, "", 2, 3),
+    (true, "", 5, 3),
+    (true, "", 7, 3),
+    (true, "", 0, 3),
+    (true, "", 5, 1),
+    (true, "", 9, 3),
+    (true, "-missing", 0, 3),
+    (false, "", 0, 3),
+    (false, "/tmp", 0, 3),
+    (true, "/within", 0, 3),
+    (false, "a\0b", 0, 3),
+    (true, "", 0, 3),
+];
 
-/// Whether names of no file are refused, and the file of this name is still read behind them.
-fn refuses_others<F: Files>(alloc: Global, files: &mut F, name: &str) -> Result<bool, Fail> {
-    let missing = format!(in alloc; "{name}-missing")?;
-    let within = format!(in alloc; "{name}/within")?;
-    let fetches = [
-        refuses(missing.as_str(), Ok(Fetched::Absent)),
-        refuses("", Ok(Fetched::Absent)),
-        refuses("/tmp", Err(Trouble::Failed)),
-        refuses(within.as_str(), Err(Trouble::Failed)),
-        refuses("a\0b", Err(Trouble::Failed)),
-        gives(name, 0, 3, "abc"),
-    ];
-    Ok(are_so(files, &fetches))
-}
+const OF_DISK: &str = "ab;cde;fg;;abc;f;;-;-;!;!;!;abc;";
 
 /// Whether a file that holds `abcdefg` is read as it should be.
 fn is_read<F: Files>(alloc: Global, files: &mut F, name: &str) -> Result<bool, Fail> {
-    let pieces = gives_pieces(files, name);
-    let others = refuses_others(alloc, files, name)?;
-    let whole = is_whole(alloc, files, name, 100, b"abcdefg")?;
-    Ok(pieces && others && whole)
+    let text = all_fetched(alloc, files, name, &FROM_DISK)?;
+    Ok(text.as_slice() == OF_DISK.as_bytes())
 }
 
 #[test]
 fn disk_files_read_what_is_there(rt: HostRuntime) -> Result<(), Fail> {
     let path = format!(in rt.alloc(); "/tmp/surge_outside-{}", process::id(rt.process()))?;
     fs::write(&rt, path.as_str(), "abcdefg")?;
-    assert!(rt; is_read(rt.alloc(), &mut DiskFiles::new(rt), path.as_str())?);
+    let mut files = DiskFiles::new(rt);
+    assert!(rt; is_read(rt.alloc(), &mut files, path.as_str())?);
+    assert!(rt; is_whole(rt.alloc(), &mut files, path.as_str(), 100, b"abcdefg")?);
     fs::remove_file(&rt, path.as_str())?;
     Ok(())
 }
