@@ -1,6 +1,5 @@
 //! Rows, worked out by hand. Each file has those of a theme, but `small_graphs` and `views`, which have what these share.
 
-mod graphs;
 mod inserts;
 mod matrices;
 mod places;

@@ -1,16 +1,17 @@
 //! Edges of a further file, behind those of an edges file. No statement names such a file yet.
 
 use crate::tests::places::edges_text;
-use crate::tests::small_graphs::{FOUR_NODES, graph_of};
+use crate::tests::small_graphs::{FOUR_EDGES, FOUR_NODES, graph_of};
 use graph_loader::{LoadFault, extend};
 use graph_model::Graph;
 use std::alloc::Global;
+use std::fmt::Write;
 use std::test::Fail;
 use surge_outside::NoMemory;
 
 // An edges file between four nodes, a further one, which statement 5 names, and what the graph has then: the edges, each by the
 // numbers of its ends, with its cells. A fault of the further file stands before them. A ~ is the byte FF.
-const FILES: [[&str; 3]; 26] = [
+const FILES: [[&str; 3]; 28] = [
     // Files that are taken.
     ["src,dst\n1,2\n", "src,dst\n3,1\n2,2\n", "0>1 2>0 1>1 "],
     ["src,dst\n", "src,dst\n3,1\n", "2>0 "],
@@ -25,6 +26,19 @@ const FILES: [[&str; 3]; 26] = [
         "src,dst,\"a,b:c:int\"\n1,2,1\n",
         "src,dst,\"a,b:c:int\"\n2,1,2\n",
         "0>1 Int(1) 1>0 Int(2) ",
+    ],
+    [
+        "src,dst,n:int,s:str,b:bool\n1,2,,x,\n3,3,0,y,false\n2,1,8,,true\n",
+        "src,dst,n:int,s:str,b:bool\n1,2,5,a,true\n3,3,,,\n2,1,-3,c d,false\n",
+        concat!(
+            "0>1 Absent Str(\"x\") Absent 2>2 Int(0) Str(\"y\") Bool(false) 1>0 Int(8) Str(\"\") Bool(true) ",
+            "0>1 Int(5) Str(\"a\") Bool(true) 2>2 Absent Str(\"\") Absent 1>0 Int(-3) Str(\"c d\") Bool(false) ",
+        ),
+    ],
+    [
+        FOUR_EDGES,
+        "src,dst,y:int\n4,1,9\n",
+        "0>1 Int(1) 1>2 Int(1) 0>2 Int(2) 2>3 Int(3) 3>0 Int(9) ",
     ],
     // No header.
     ["src,dst\n1,2\n", "", "Insert(5) 1 0 NoHeader 0>1 "],
@@ -135,24 +149,36 @@ fn fault_of(alloc: Global, graph: &mut Graph, more: &[u8]) -> Result<String, Fai
 
 // What a further file makes of a graph.
 fn extended_over(alloc: Global, graph: &mut Graph, more: &[u8]) -> Result<String, Fail> {
-    let fault = fault_of(alloc, graph, more)?;
-    let edges = edges_text(alloc, graph)?;
-    Ok(format!(in alloc; "{fault}{edges}")?)
+    let mut text = fault_of(alloc, graph, more)?;
+    text.push_str(edges_text(alloc, graph)?.as_str())?;
+    Ok(text)
 }
 
 // What it makes of the graph of an edges file.
-fn extended(alloc: Global, edges: &str, more: &str) -> Result<String, Fail> {
-    let more = bytes_of(alloc, more)?;
+fn extended(alloc: Global, edges: &str, more: &[u8]) -> Result<String, Fail> {
     let mut graph = graph_of(alloc, FOUR_NODES, edges)?;
-    extended_over(alloc, &mut graph, more.as_slice())
+    extended_over(alloc, &mut graph, more)
+}
+
+// The same of a text of the table.
+fn extended_by(alloc: Global, edges: &str, more: &str) -> Result<String, Fail> {
+    let more = bytes_of(alloc, more)?;
+    extended(alloc, edges, more.as_slice())
+}
+
+// The place of the first row that isn't so.
+fn first_wrong(alloc: Global, rows: &[[&str; 3]]) -> Result<Option<usize>, Fail> {
+    for (place, [edges, more, wanted]) in rows.iter().enumerate() {
+        if extended_by(alloc, edges, more)?.as_str() != *wanted {
+            return Ok(Some(place));
+        }
+    }
+    Ok(None)
 }
 
 #[test]
 fn further_files_add_edges_or_nothing(rt: HostRuntime) -> Result<(), Fail> {
-    for [edges, more, wanted] in &FILES {
-        let found = extended(rt.alloc(), edges, more)?;
-        assert_eq!(rt; found.as_str(), *wanted);
-    }
+    assert_eq!(rt; first_wrong(rt.alloc(), &FILES)?, None);
     Ok(())
 }
 
@@ -174,8 +200,9 @@ fn graph_of_loops(alloc: Global, count: u32) -> Result<Graph, Fail> {
 // The fault of a further file of so many edges, and how many edges the graph has then.
 fn counted(alloc: Global, graph: &mut Graph, count: u32) -> Result<String, Fail> {
     let more = loops(alloc, count)?;
-    let fault = fault_of(alloc, graph, more.as_bytes())?;
-    Ok(format!(in alloc; "{fault}{};", graph.edge_count())?)
+    let mut text = fault_of(alloc, graph, more.as_bytes())?;
+    write!(text, "{};", graph.edge_count())?;
+    Ok(text)
 }
 
 // The same of several files, one behind the other.
@@ -193,17 +220,16 @@ fn counted_at_the_limit(alloc: Global, counts: &[u32]) -> Result<String, Fail> {
     counted_in_turn(alloc, &mut graph, counts)
 }
 
+const AT_THE_LIMIT: &str = concat!(
+    "Insert(5) 4 0 TooManyEdges 3999998;",
+    "4000000;",
+    "4000000;",
+    "Insert(5) 2 0 TooManyEdges 4000000;",
+);
+
 #[test]
 fn edges_that_are_there_count_for_the_limit(rt: HostRuntime) -> Result<(), Fail> {
     let found = counted_at_the_limit(rt.alloc(), &[3, 2, 0, 1])?;
-    assert_eq!(rt;
-        found.as_str(),
-        concat!(
-            "Insert(5) 4 0 TooManyEdges 3999998;",
-            "4000000;",
-            "4000000;",
-            "Insert(5) 2 0 TooManyEdges 4000000;",
-        )
-    );
+    assert_eq!(rt; found.as_str(), AT_THE_LIMIT);
     Ok(())
 }

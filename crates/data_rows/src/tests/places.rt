@@ -9,30 +9,36 @@ use std::alloc::{AllocError, Global};
 use std::fmt::Write;
 use std::test::Fail;
 
-// Two files, and what they load as: of the nodes the columns, whether one has the id 5, and then of each its id, the node
-// that is found by this id, its cells, and which node stands at its place by rising id; of the edges the columns, and then
-// of each its ends and its cells.
+// Two files, and what they load as: of the nodes the columns, which one has each id from 0 to 11, or - where none has it, and
+// then of each its id, the node that is found by this id, its cells, and which node stands at its place by rising id; of the
+// edges the columns, and then of each its ends and its cells.
 const FILES: [[&str; 3]; 5] = [
     // Ids that neither rise nor fall, and edges whose ends don't either.
     [
         "id\n7\n100\n0\n4\n",
         "src,dst\n0,7\n100,4\n7,100\n4,0\n",
-        "[] None 7=0;2 100=1;3 0=2;0 4=3;1 / [] 2>0 1>3 0>1 3>2 ",
+        "[] 2---3--0---- 7=0;2 100=1;3 0=2;0 4=3;1 / [] 2>0 1>3 0>1 3>2 ",
     ],
-    // The graph to which an edge is added elsewhere.
     [
         FOUR_NODES,
         FOUR_EDGES,
         concat!(
-            "[] None 1=0;0 2=1;1 3=2;2 4=3;3 / [Column { name: Text { text: \"y\" }, kind: Int }] ",
+            "[] -0123------- 1=0;0 2=1;1 3=2;2 4=3;3 / [Column { name: Text { text: \"y\" }, kind: Int }] ",
             "0>1 Int(1) 1>2 Int(1) 0>2 Int(2) 2>3 Int(3) ",
         ),
     ],
-    // The last node has the middle id.
+    // The last node has the middle id, and nodes and edges have a column of each kind.
     [
-        "id\n10\n2\n7\n",
-        "src,dst\n",
-        "[] None 10=0;1 2=1;2 7=2;0 / [] ",
+        "id,n:int,s:str,b:bool\n10,5,a,true\n2,,,\n7,-3,c d,false\n",
+        "src,dst,n:int,s:str,b:bool\n10,2,,x,\n7,7,0,y,false\n2,10,8,,true\n",
+        concat!(
+            "[Column { name: Text { text: \"n\" }, kind: Int }, Column { name: Text { text: \"s\" }, kind: Str }, ",
+            "Column { name: Text { text: \"b\" }, kind: Bool }] --1----2--0- ",
+            "10=0 Int(5) Str(\"a\") Bool(true);1 2=1 Absent Str(\"\") Absent;2 7=2 Int(-3) Str(\"c d\") Bool(false);0 / ",
+            "[Column { name: Text { text: \"n\" }, kind: Int }, Column { name: Text { text: \"s\" }, kind: Str }, ",
+            "Column { name: Text { text: \"b\" }, kind: Bool }] ",
+            "0>1 Absent Str(\"x\") Absent 2>2 Int(0) Str(\"y\") Bool(false) 1>0 Int(8) Str(\"\") Bool(true) ",
+        ),
     ],
     // Columns of each kind.
     [
@@ -40,7 +46,7 @@ const FILES: [[&str; 3]; 5] = [
         "src,dst,duration:int,year:int\r\n10,20,7,2010\r\n20,30,12,\r\n",
         concat!(
             "[Column { name: Text { text: \"city\" }, kind: Str }, Column { name: Text { text: \"vip\" }, kind: Bool }] ",
-            "None 10=0 Str(\"Los Angeles\") Bool(true);0 20=1 Str(\"San Jose, CA\") Bool(false);1 ",
+            "----------0- 10=0 Str(\"Los Angeles\") Bool(true);0 20=1 Str(\"San Jose, CA\") Bool(false);1 ",
             "30=2 Str(\"Reno\") Absent;2 40=3 Str(\"\") Bool(true);3 / ",
             "[Column { name: Text { text: \"duration\" }, kind: Int }, Column { name: Text { text: \"year\" }, kind: Int }] ",
             "0>1 Int(7) Int(2010) 1>2 Int(12) Absent ",
@@ -51,7 +57,7 @@ const FILES: [[&str; 3]; 5] = [
         "\"id\",\"a,b:c:int\"\n\"1\",\"5\"\n\n2,-0",
         "src,dst,s:str\n1,2,\"say \"\"hi\"\"\"\n",
         concat!(
-            "[Column { name: Text { text: \"a,b:c\" }, kind: Int }] None 1=0 Int(5);0 2=1 Int(0);1 / ",
+            "[Column { name: Text { text: \"a,b:c\" }, kind: Int }] -01--------- 1=0 Int(5);0 2=1 Int(0);1 / ",
             "[Column { name: Text { text: \"s\" }, kind: Str }] 0>1 Str(\"say \\\"hi\\\"\") ",
         ),
     ],
@@ -83,11 +89,25 @@ fn nodes_text(alloc: Global, graph: &Graph) -> Result<String, AllocError> {
     Ok(text)
 }
 
-// The columns of the nodes, the node with the id 5, which none has, and then the nodes.
+// The nodes with the ids from 0 on.
+fn found_text(alloc: Global, graph: &Graph) -> Result<String, AllocError> {
+    let mut text = String::new(alloc);
+    for id in 0..12 {
+        match graph.find(id) {
+            Some(n) => write!(text, "{}", n.0)?,
+            None => text.push_str("-")?,
+        }
+    }
+    text.push_str(" ")?;
+    Ok(text)
+}
+
+// The columns of the nodes, which nodes are found, and then the nodes.
 fn all_of_nodes(alloc: Global, graph: &Graph) -> Result<String, AllocError> {
-    let nodes = nodes_text(alloc, graph)?;
-    let columns = graph.node_columns().as_slice();
-    format!(in alloc; "{columns:?} {:?} {nodes}", graph.find(5))
+    let mut text = format!(in alloc; "{:?} ", graph.node_columns().as_slice())?;
+    text.push_str(found_text(alloc, graph)?.as_str())?;
+    text.push_str(nodes_text(alloc, graph)?.as_str())?;
+    Ok(text)
 }
 
 // The numbers of an edge's ends, and its cells.
@@ -112,10 +132,10 @@ pub(crate) fn edges_text(alloc: Global, graph: &Graph) -> Result<String, Fail> {
 }
 
 fn graph_text(alloc: Global, graph: &Graph) -> Result<String, Fail> {
-    let nodes = all_of_nodes(alloc, graph)?;
-    let edges = edges_text(alloc, graph)?;
-    let columns = graph.edge_columns().as_slice();
-    Ok(format!(in alloc; "{nodes}/ {columns:?} {edges}")?)
+    let mut text = all_of_nodes(alloc, graph)?;
+    write!(text, "/ {:?} ", graph.edge_columns().as_slice())?;
+    text.push_str(edges_text(alloc, graph)?.as_str())?;
+    Ok(text)
 }
 
 // What two files load as.
@@ -124,11 +144,18 @@ fn loaded(alloc: Global, nodes: &str, edges: &str) -> Result<String, Fail> {
     graph_text(alloc, &graph)
 }
 
+// The place of the first row that isn't so.
+fn first_wrong(alloc: Global, rows: &[[&str; 3]]) -> Result<Option<usize>, Fail> {
+    for (place, [nodes, edges, wanted]) in rows.iter().enumerate() {
+        if loaded(alloc, nodes, edges)?.as_str() != *wanted {
+            return Ok(Some(place));
+        }
+    }
+    Ok(None)
+}
+
 #[test]
 fn numbers_are_places_in_the_files(rt: HostRuntime) -> Result<(), Fail> {
-    for [nodes, edges, wanted] in &FILES {
-        let found = loaded(rt.alloc(), nodes, edges)?;
-        assert_eq!(rt; found.as_str(), *wanted);
-    }
+    assert_eq!(rt; first_wrong(rt.alloc(), &FILES)?, None);
     Ok(())
 }
