@@ -8,10 +8,10 @@ use edge_predicates::Cmp;
 use std::alloc::Global;
 use std::test::Fail;
 
-const TWO: &[u8] = b"id\n1\n2\n";
+pub(crate) const TWO: &[u8] = b"id\n1\n2\n";
 
 /// Two edges from 1 to 2.
-const SIDE_BY_SIDE: &[u8] = b"src,dst,k:int\n1,2,1\n1,2,2\n";
+pub(crate) const SIDE_BY_SIDE: &[u8] = b"src,dst,k:int\n1,2,1\n1,2,2\n";
 
 // Whether a run on views of two nodes gives this text.
 fn gives(
@@ -40,7 +40,7 @@ fn gives(
 }
 
 /// The first edge, and both.
-const ONE_AND_TWO: &[Rule] = &[(Cmp::Eq, 1), (Cmp::Ge, 1)];
+pub(crate) const ONE_AND_TWO: &[Rule] = &[(Cmp::Eq, 1), (Cmp::Ge, 1)];
 
 #[test]
 fn the_second_phase_begins_with_the_values_of_the_first(rt: HostRuntime) -> Result<(), Fail> {

@@ -112,7 +112,7 @@ pub(crate) fn graph_in(alloc: Global, nodes: &[u8], edges: &[u8]) -> Result<Grap
 
 // ---- answers, as text
 
-fn push_value(alloc: Global, text: &mut String, value: Val) -> Result<(), AllocError> {
+pub(crate) fn push_value(alloc: Global, text: &mut String, value: Val) -> Result<(), AllocError> {
     match value {
         Val::Nil => text.push_str(" -"),
         Val::Num(number) => text.push_str(format!(in alloc; " {number}")?.as_str()),
