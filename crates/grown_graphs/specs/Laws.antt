@@ -1,5 +1,5 @@
 -- What a graph with more edges behind its own keeps, each law as one statement, and proofs of them that the rooms above can cite.
-use Rattle.std.specs.Prelude.{ℕ, ◌≡◌, ◌≤◌, ◌<◌, Bool, false, ◌&&◌, List, length, filter, Ok}
+use Rattle.std.specs.Prelude.{ℕ, ◌≡◌, ◌≤◌, ◌<◌, Bool, false, ◌&&◌, List, length, filter, Ok, Option, IfSome, All}
 use Rattle.std.proofs.Common.{◌∙◌, sym, refl, subst, arith}
 use Rattle.graph_model.specs.declared.number.EdgeNo.{EdgeNo}
 use Rattle.graph_model.specs.declared.number.NodeNo.{NodeNo}
@@ -20,7 +20,10 @@ use Rattle.vertex_lang.specs.Arcs.{arcs_between}
 use Rattle.vertex_lang.specs.Expressions.{Answer}
 use Rattle.vertex_lang.specs.Leaves.{IsChecked}
 use Rattle.vertex_lang.specs.Lone.{answer_of}
+use Rattle.vertex_lang.specs.Phases.{phases_answer}
 use Rattle.vertex_lang.specs.Rounds.{lone}
+use Rattle.lone_work.specs.Work.{work}
+use Rattle.aggregate_views.specs.Rows.{HasSumColumn, rows_of}
 use Rattle.result_tables.specs.declared.form.Form.{Form}
 use Rattle.result_tables.specs.declared.table.Table.{Table}
 use Rattle.result_tables.specs.TableText.{form_text}
@@ -28,6 +31,9 @@ use Rattle.grown_graphs.specs.Growing.{AlongEdgesOf, AreEdgesOf, GrowsTo}
 use Rattle.grown_graphs.specs.JoinLaws.{grown, still-fits}
 use Rattle.grown_graphs.specs.ReadLaws.{same-arcs, same-rule, same-truth, same-view}
 use Rattle.grown_graphs.specs.RunLaws.{same-answer, same-checked, same-checked-back, same-lone}
+use Rattle.grown_graphs.specs.PhaseLaws.{same-phases-over}
+use Rattle.grown_graphs.specs.WorkLaws.{same-work}
+use Rattle.grown_graphs.specs.RowLaws.{same-rows-over}
 use Rattle.grown_graphs.specs.TableLaws.{same-text}
 
 -- ---- growing
@@ -116,6 +122,32 @@ SameAnswers = (g h : GraphData) (answer : Answer) (p : Program) (edges : List Ed
 
 pub same-answers : SameAnswers
 same-answers g h answer p edges limit more old = same-answer g h more answer p edges limit old
+
+-- so has its run in phases
+abbrev pub SamePhases : Type 0
+SamePhases = (g h : GraphData) (answer : Answer) (p : Program) (edges : List EdgeNo) (n m : ℕ) → GrowsTo g h → AreEdgesOf g edges
+    → phases_answer answer p h (arcs_between p.along h edges) n m ≡ phases_answer answer p g (arcs_between p.along g edges) n m
+
+pub same-phases : SamePhases
+same-phases g h answer p edges n m more old = same-phases-over g h more answer p edges n m old
+
+-- and behind a view, or behind none, it has the same work
+abbrev pub SameWorks : Type 0
+SameWorks = (g h : GraphData) (answer : Answer) (p : Program) (new : List Arc) (old : Option (List Arc)) (rounds : ℕ) → GrowsTo g h → AlongEdgesOf g new → IfSome old (AlongEdgesOf g)
+    → work answer p h new old rounds ≡ work answer p g new old rounds
+
+pub same-works : SameWorks
+same-works g h answer p new old rounds more along before = same-work g h more answer p new old rounds along before
+
+-- ---- aggregates
+
+-- edges that were there have the same rows
+abbrev pub SameRows : Type 0
+SameRows = (g h : GraphData) (column : ℕ) (sum : Option ℕ) (edges : List ℕ) → GrowsTo g h → HasSumColumn g sum → All (λ e. e < length g.ends) edges
+    → rows_of h column sum edges ≡ rows_of g column sum edges
+
+pub same-rows : SameRows
+same-rows g h column sum edges more has old = same-rows-over g h more column sum has edges old
 
 -- ---- tables
 

@@ -2,5 +2,8 @@ pub mod Growing
 pub mod JoinLaws
 pub mod ReadLaws
 pub mod RunLaws
+pub mod PhaseLaws
+pub mod WorkLaws
+pub mod RowLaws
 pub mod TableLaws
 pub mod Laws

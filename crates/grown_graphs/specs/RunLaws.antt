@@ -85,16 +85,16 @@ module _ (g h : GraphData) (more : GrowsTo g h) where
     says true = ap (λ l. carried p g all values a ∷ l) rest
     says false = rest
 
-  same-messages : (p : Program) (all : List Arc) (values : List Val) (v : ℕ) (arcs : List Arc) → AlongEdgesOf g arcs → messages (carried p h all values) arcs v ≡ messages (carried p g all values) arcs v
+  pub same-messages : (p : Program) (all : List Arc) (values : List Val) (v : ℕ) (arcs : List Arc) → AlongEdgesOf g arcs → messages (carried p h all values) arcs v ≡ messages (carried p g all values) arcs v
   same-messages p all values v [] old = refl
   same-messages p all values v (a ∷ arcs) old =
       one-more p all values a (filter (λ (b : Arc). b.head.0 == v) arcs) (a.head.0 == v) (same-sent p a.tail.0 (outdeg all a.tail.0) a.edge.0 (value_at values a.tail.0) (old 0 a (omega arith)))
       (same-messages p all values v arcs (λ k d lt. old (suc k) d (omega arith)))
 
-  same-nodes : nodes_of h ≡ nodes_of g
+  pub same-nodes : nodes_of h ≡ nodes_of g
   same-nodes = ap (λ (ids : List ℕ). range_with_len 0 (length ids)) more.ids
 
-  by-words : (answer : Answer) (p : Program) (value start other : Val) (id this : ℕ) (ms ns : List Val) → id ≡ this → start ≡ other → ms ≡ ns
+  pub by-words : (answer : Answer) (p : Program) (value start other : Val) (id this : ℕ) (ms ns : List Val) → id ≡ this → start ≡ other → ms ≡ ns
       → answer p id start value (gathered_of p.gather ms) (length ms) ≡ answer p this other value (gathered_of p.gather ns) (length ns)
   by-words answer p value start other id this ms ns i s m = rw (i, s, m) refl
 

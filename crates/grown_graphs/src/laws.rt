@@ -1,6 +1,6 @@
 //! What follows from the definitions. These functions have no code: the contract of each is one law.
 
-ghost use Rattle.grown_graphs.specs.Laws.{ExtendedGrows, FitsWhenGrown, GrowthIsChecked, GrowthsJoin, SameAnswers, SameArcs, SameTables, SameTruths, SameValues, SameViews};
+ghost use Rattle.grown_graphs.specs.Laws.{ExtendedGrows, FitsWhenGrown, GrowthIsChecked, GrowthsJoin, SameAnswers, SameArcs, SamePhases, SameRows, SameTables, SameTruths, SameValues, SameViews, SameWorks};
 
 /// A graph that a further file of edges extends grows to the one that is made of it.
 pub fn extended_grows()
@@ -45,6 +45,21 @@ pub fn same_values()
 /// The plain run of a program on edges that were there has the same answer, whatever the updater answers.
 pub fn same_answers()
     ensures { SameAnswers }
+{}
+
+/// The run of a program in phases on edges that were there has the same answer, whatever the updater answers.
+pub fn same_phases()
+    ensures { SamePhases }
+{}
+
+/// The work of a view whose edges were there is the same, behind another such view and behind none.
+pub fn same_works()
+    ensures { SameWorks }
+{}
+
+/// Edges that were there, counted by the groups of their ends, have the same rows.
+pub fn same_rows()
+    ensures { SameRows }
 {}
 
 /// A table is the same text, in each form.

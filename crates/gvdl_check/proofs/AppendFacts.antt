@@ -10,7 +10,7 @@ use Rattle.gvdl_programs.specs.JudgingLaws.{goes_on, through, same_value}
 use Rattle.gvdl_check.specs.declared.known.Known.{Known}
 use Rattle.gvdl_check.specs.declared.plan.Step.{Step}
 use Rattle.gvdl_check.specs.declared.plan.Step.TheVariants as step
-use Rattle.gvdl_check.specs.Known.{known_of, collection_plan, collection_at, views_in, with_views, append_step, with_append}
+use Rattle.gvdl_check.specs.Known.{collection_plan, collection_at, views_in, with_views, append_step, with_append}
 use Rattle.gvdl_check.specs.Names.{collection_of}
 use Rattle.gvdl_check.specs.Singles.{rules_at}
 use Rattle.gvdl_check.specs.Views.{items_added}
@@ -52,7 +52,7 @@ pub append_gives : (g : GraphData) (k : Known) (target : List ℕ) (items : List
     (rules : List Pred) (those : List CollectionPlan) (first all : ℕ) → collection_of k.names target ≡ Ok (place, base)
     → rules ≡ rules_at k.singles base → views_appended g rules k.collections place items ≡ Ok those
     → first ≡ length (views_in k.collections place) → all ≡ length (views_in those place)
-    → append g k target items ≡ Ok (known_of k.names k.singles those k.runs (k.steps ++ step.Append place first (all - first) ∷ []))
+    → append g k target items ≡ Ok (record k { collections = those; steps = k.steps ++ step.Append place first (all - first) ∷ [] })
 append_gives g k target items place base rules those first all found same more a b =
     let more_on : ℕ × Option ℕ → Judged (List CollectionPlan) = λ f. views_appended g (rules_at k.singles f.1) k.collections f.0 items in
     let last : ℕ × Option ℕ → List CollectionPlan → Judged Known = λ f cs. Ok (with_append k f.0 cs) in
@@ -62,4 +62,4 @@ append_gives g k target items place base rules those first all found same more a
     let one : append_step k.collections those place ≡ step.Append place first (all - first) =
     ap (λ (n : ℕ). step.Append place n (length (views_in those place) - n)) (sym a)
     ∙ ap (λ (n : ℕ). step.Append place first (n - first)) (sym b) in
-    on ∙ then ∙ ap (λ (s : Step). Ok (known_of k.names k.singles those k.runs (k.steps ++ s ∷ []))) one
+    on ∙ then ∙ ap (λ (s : Step). Ok (record k { collections = those; steps = k.steps ++ s ∷ [] })) one

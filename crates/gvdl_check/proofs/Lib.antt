@@ -4,5 +4,5 @@ pub mod SingleFacts
 pub mod AppendFacts
 pub mod PlanAnswers
 pub mod WindowFacts
-pub mod SizeFacts
 pub mod PlanSteps
+pub mod MarkFacts

@@ -1,5 +1,5 @@
 -- What the check answers.
-use Rattle.std.proofs.Common.{◌≡◌, ◌∙◌, ℕ, Bool, true, false, length, sym, ap, refl, inl, inr, Result, Ok, Err, IfOk}
+use Rattle.std.proofs.Common.{◌≡◌, ◌∙◌, ℕ, Bool, true, false, List, length, sum, sym, ap, refl, inl, inr, Result, Ok, Err, IfOk}
 use Rattle.graph_model.specs.GraphData.{GraphData}
 use Rattle.gvdl_tree.specs.declared.script.Script.{Script}
 use Rattle.gvdl_check.specs.declared.plan.Plan.{Plan}
@@ -23,28 +23,28 @@ stopped n said f (stop.Refused r) h = inl (sym (ap (λ (s : Judged _). at n s >>
 stopped n said f stop.NoMemory h = inr refl
 
 -- a form that there isn't is the answer
-pub form_refused : (s : Script) (g : GraphData) → is_form s.form ≡ false → Agrees (plan s g) (Err fault.BadForm)
-form_refused s g bad = inl (sym (ap (λ (b : Bool). form_known b >>= λ _. plan_loaded s g) bad))
+pub form_refused : (s : Script) (g : GraphData) (groups : List ℕ) → is_form s.form ≡ false → Agrees (plan s g groups) (Err fault.BadForm)
+form_refused s g groups bad = inl (sym (ap (λ (b : Bool). form_known b >>= λ _. plan_loaded s g groups) bad))
 
 -- behind a form that there is, what is said of the statements is the answer
-pub form_taken : (s : Script) (g : GraphData) (r : Result Plan CheckFault) → is_form s.form ≡ true → Agrees (plan_loaded s g) r → Agrees (plan s g) r
-form_taken s g r good (inl e) = inl (e ∙ sym (ap (λ (b : Bool). form_known b >>= λ _. plan_loaded s g) good))
-form_taken s g r good (inr e) = inr e
+pub form_taken : (s : Script) (g : GraphData) (groups : List ℕ) (r : Result Plan CheckFault) → is_form s.form ≡ true → Agrees (plan_loaded s g groups) r → Agrees (plan s g groups) r
+form_taken s g groups r good (inl e) = inl (e ∙ sym (ap (λ (b : Bool). form_known b >>= λ _. plan_loaded s g groups) good))
+form_taken s g groups r good (inr e) = inr e
 
 -- a value that is answered is what is said
 said_so : {A : Type 0} (said : Result A CheckFault) (a : A) → Agrees said (Ok a) → said ≡ Ok a
 said_so said a (inl e) = sym e
 said_so said a (inr e) = absurd cc
 
-pub fitting : (s : Script) (g : GraphData) (r : Result Plan CheckFault) → Agrees (plan s g) r → IfOk r (λ p. PlanFits g p)
-fitting s g (Ok p) h = (plan_sound s g p (said_so (plan s g) p h)).fits
-fitting s g (Err x) h = tt
+pub fitting : (s : Script) (g : GraphData) (groups : List ℕ) (r : Result Plan CheckFault) → sum groups ≡ length g.ends → Agrees (plan s g groups) r → IfOk r (λ p. PlanFits g p)
+fitting s g groups (Ok p) all h = (plan_sound s g groups p all (said_so (plan s g groups) p h)).fits
+fitting s g groups (Err x) all h = tt
 
-pub holding_none : (s : Script) (g : GraphData) (r : Result Plan CheckFault) → IsWritten s → Agrees (plan s g) r → IfOk r HoldsNoLowest
-holding_none s g (Ok p) written h = no_lowest s g p written (said_so (plan s g) p h)
-holding_none s g (Err x) written h = tt
+pub holding_none : (s : Script) (g : GraphData) (groups : List ℕ) (r : Result Plan CheckFault) → IsWritten s → sum groups ≡ length g.ends → Agrees (plan s g groups) r → IfOk r HoldsNoLowest
+holding_none s g groups (Ok p) written all h = no_lowest s g groups p written all (said_so (plan s g groups) p h)
+holding_none s g groups (Err x) written all h = tt
 
-pub counted : (s : Script) (g : GraphData) (r : Result Plan CheckFault) → Agrees (plan s g) r
+pub counted : (s : Script) (g : GraphData) (groups : List ℕ) (r : Result Plan CheckFault) → sum groups ≡ length g.ends → Agrees (plan s g groups) r
     → IfOk r (λ p. length p.steps ≡ length s.statements)
-counted s g (Ok p) h = (plan_sound s g p (said_so (plan s g) p h)).steps
-counted s g (Err x) h = tt
+counted s g groups (Ok p) all h = (plan_sound s g groups p all (said_so (plan s g groups) p h)).steps
+counted s g groups (Err x) all h = tt

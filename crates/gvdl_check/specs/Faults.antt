@@ -1,20 +1,14 @@
 -- What a refusal is called outside, with the number of its statement.
-use Rattle.std.specs.Prelude.{◌≡◌, ◌⊎◌, ℕ, Bool, true, false, if◌then◌else◌, Result, Ok, Err}
+use Rattle.std.specs.Prelude.{◌≡◌, ◌⊎◌, ℕ, Result, Ok, Err}
 use Rattle.gvdl_check.specs.declared.fault.CheckFault.{CheckFault}
 use Rattle.gvdl_check.specs.declared.fault.CheckFault.TheVariants as fault
 use Rattle.gvdl_programs.specs.declared.refusal.Refusal.{Refusal}
-use Rattle.gvdl_programs.specs.declared.refusal.Refusal.TheVariants as refusal
 use Rattle.gvdl_programs.specs.declared.refusal.Stop.{Stop}
 use Rattle.gvdl_programs.specs.declared.refusal.Stop.TheVariants as stop
 use Rattle.gvdl_programs.specs.Judging.{Judged}
 
--- that a statement is not built is no fault of the script
-abbrev pub is_unbuilt : Refusal → Bool
-is_unbuilt refusal.NotBuilt = true
-is_unbuilt _ = false
-
 abbrev pub fault_at : ℕ → Refusal → CheckFault
-fault_at n r = if is_unbuilt r then fault.NotBuilt n else fault.Fault (record { statement = n; refusal = r })
+fault_at n r = fault.Fault (record { statement = n; refusal = r })
 
 -- what is judged of the statement with this number
 abbrev pub at : {A : Type 0} → ℕ → Judged A → Result A CheckFault

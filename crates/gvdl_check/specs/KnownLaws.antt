@@ -1,9 +1,9 @@
 -- What is known after a statement fits the graph, and is little more than what was known before it.
 use Rattle.std.proofs.Common.{◌≡◌, ◌∙◌, ℕ, ◌+◌, ◌<◌, ◌≤◌, Bool, true, false, List, [], ◌∷◌}
-use Rattle.std.proofs.Common.{◌++◌, length}
+use Rattle.std.proofs.Common.{◌++◌, length, zero, suc}
 use Rattle.std.proofs.Common.{refl, sym, ap, subst, arith, length-append, cond, Option, None, Some}
 use Rattle.std.proofs.Common.{Ok, inl, inr}
-use Rattle.std.specs.Prelude.{All, bytes_eq, codes, not, ◌==◌, nat_lt}
+use Rattle.std.specs.Prelude.{All, bytes_eq, codes, not, nat_lt, get_or, take}
 use Rattle.std.specs.List.{sum_by}
 use Rattle.std.proofs.lemmas.Bool.{cases_lt}
 use Rattle.std.proofs.lemmas.Bool.Decides.{nat_tests}
@@ -17,25 +17,20 @@ use Rattle.gvdl_tree.specs.declared.script.Along.{Along}
 use Rattle.gvdl_tree.specs.declared.script.Call.{Call}
 use Rattle.gvdl_tree.specs.declared.script.Gather.{Gather}
 use Rattle.gvdl_tree.specs.declared.script.Item.{Item}
-use Rattle.gvdl_tree.specs.declared.script.SplitWord.{SplitWord}
-use Rattle.gvdl_tree.specs.declared.script.SplitWord.TheVariants as split_word
 use Rattle.gvdl_tree.specs.declared.script.Statement.{Statement}
 use Rattle.gvdl_tree.specs.declared.script.Statement.TheVariants as statement
 use Rattle.edge_predicates.specs.declared.pred.Pred.{Pred}
-use Rattle.segment_split.specs.Rule.{HasNumber}
-use Rattle.segment_split.specs.declared.SplitRule.{SplitRule}
-use Rattle.segment_split.specs.declared.SplitRule.TheVariants as split
 use Rattle.vertex_lang.specs.declared.program.Program.{Program}
-use Rattle.vertex_lang.specs.declared.lone.Rounds.{Rounds}
 use Rattle.vertex_lang.specs.Values.{lowest_number}
 use Rattle.vertex_lang.specs.Leaves.{HoldsNumber, IsChecked}
-use Rattle.vertex_lang.specs.Lone.{number_of}
+use Rattle.gvdl_programs.specs.declared.refusal.Refusal.{Refusal}
 use Rattle.gvdl_programs.specs.declared.refusal.Refusal.TheVariants as refusal
 use Rattle.gvdl_programs.specs.declared.template.ProgramTemplate.{ProgramTemplate}
 use Rattle.gvdl_programs.specs.declared.template.Callable.{Callable}
 use Rattle.gvdl_programs.specs.declared.template.Callable.TheVariants as callable
 use Rattle.gvdl_programs.specs.Judging.{Judged, ◌>>=◌, expect}
-use Rattle.gvdl_programs.specs.JudgingLaws.{through, same_value, expected}
+use Rattle.gvdl_programs.specs.JudgingLaws.{Through, through, same_value}
+use Rattle.gvdl_programs.specs.Columns.{column_of, int_column}
 use Rattle.gvdl_programs.specs.Programs.{declared}
 use Rattle.gvdl_programs.specs.Calls.{HasNoLowest, ArgFits, called}
 use Rattle.gvdl_programs.specs.Fits.{ProgramFits}
@@ -43,6 +38,7 @@ use Rattle.gvdl_programs.specs.ProgramLaws.{declared_fits, called_checked}
 use Rattle.gvdl_programs.specs.NumberLaws.{called_numbers}
 use Rattle.gvdl_programs.specs.ArgumentLaws.{called_arguments}
 use Rattle.gvdl_check.specs.declared.call.Limits.{Limits}
+use Rattle.gvdl_check.specs.declared.statement.Moment.{Moment}
 use Rattle.gvdl_check.specs.declared.names.Meaning.{Meaning}
 use Rattle.gvdl_check.specs.declared.names.Meaning.TheVariants as meaning
 use Rattle.gvdl_check.specs.declared.plan.ViewPlan.{ViewPlan}
@@ -54,7 +50,7 @@ use Rattle.gvdl_check.specs.declared.known.Known.{Known}
 use Rattle.gvdl_check.specs.Known.{first_names, loaded, with_step, with_single, collection_plan}
 use Rattle.gvdl_check.specs.Known.{with_collection}
 use Rattle.gvdl_check.specs.Known.{collection_at, views_in, with_views, append_step, with_append}
-use Rattle.gvdl_check.specs.Known.{with_program, with_run}
+use Rattle.gvdl_check.specs.Known.{with_program, with_insert, with_run}
 use Rattle.gvdl_check.specs.Names.{NameList, meaning_of, new_name, base_of, as_collection}
 use Rattle.gvdl_check.specs.Names.{collection_of, as_kept, kept_of}
 use Rattle.gvdl_check.specs.Names.{as_program, program_named, known_program, program_of}
@@ -62,16 +58,17 @@ use Rattle.gvdl_check.specs.Predicates.{predicate}
 use Rattle.gvdl_check.specs.Singles.{rules_at}
 use Rattle.gvdl_check.specs.Views.{items_added}
 use Rattle.gvdl_check.specs.Plans.{load, single, collection, views_appended, append, program}
-use Rattle.gvdl_check.specs.Plans.{are_rounds, rounds_with}
-use Rattle.gvdl_check.specs.Plans.{rounds_of, order_of, every, split_of, kept_among, keep_added}
+use Rattle.gvdl_check.specs.Plans.{order_of, keep_of, kept_among, keep_added}
 use Rattle.gvdl_check.specs.Plans.{run_plan, program_meant, limits_meant, run_planned, run, limits_of}
-use Rattle.gvdl_check.specs.Plans.{show_order, show_work, statement_added}
-use Rattle.gvdl_check.specs.Steps.{makes, runs, StepsFit}
+use Rattle.gvdl_check.specs.Plans.{remove, sum_of, aggregate, show_order, show_tree, show_work, statement_added}
+use Rattle.gvdl_check.specs.Steps.{makes, runs, comes, StepsFit}
 use Rattle.gvdl_check.specs.Fits.{fits, RuleFits, ViewsFit, RunFits, MeaningFits}
-use Rattle.gvdl_check.specs.Fits.{KnownFits, IsSmall}
-use Rattle.gvdl_check.specs.RuleLaws.{predicate_fits}
+use Rattle.gvdl_check.specs.Fits.{SumFits, ColumnsFit, CountsFit, KnownFits, IsSmall}
+use Rattle.gvdl_check.specs.RuleLaws.{column_found, int_column_found, predicate_fits}
 use Rattle.gvdl_check.specs.ViewLaws.{none_fits, views_fit, views_grow}
 use Rattle.gvdl_check.specs.StepLaws.{quiet_fits, run_fits, make_fits, append_fits}
+use Rattle.gvdl_check.specs.CountLaws.{quiet_counts, insert_counts, run_counts}
+use Rattle.gvdl_check.specs.WayLaws.{IsUnkept, keep_unkept, both_kept, Way, way_phases, way_fits}
 
 abbrev NameFits : GraphData → (collections runs : ℕ) → List ℕ × Meaning → Type 0
 NameFits g n m taken = MeaningFits g n m taken.1
@@ -128,7 +125,7 @@ all_later g n m i j names a b h = All-weaker (NameFits g n m) (NameFits g i j) (
 
 later_run : (g : GraphData) (n i : ℕ) (r : RunPlan) → n ≤ i → RunFits g n r → RunFits g i r
 later_run g n i r a h =
-    record { collection = omega (arith, a, h.collection); checked = h.checked; call = h.call; numbers = h.numbers; some = h.some; limit = h.limit; split = h.split }
+    record { collection = omega (arith, a, h.collection); checked = h.checked; call = h.call; numbers = h.numbers; some = h.some; limit = h.limit; split = h.split; phases = h.phases }
 
 -- the predicates of the graph or of a single view fit
 rules_fit : (g : GraphData) (views : List (List Pred)) (base : Option ℕ) → All (RuleFits g) views → RuleFits g (rules_at views base)
@@ -138,43 +135,6 @@ rules_fit g views (Some place) h = elim (cases_lt place (length views)) [
   | inr le ↦ subst (RuleFits g) (sym (get_or_past views place [] le)) (All-nil (λ (p : Pred). fits g p ≡ true))
 ]
 
--- ---- rounds and splits
-
-number_is : (within : Bool) (n : ℕ) → number_of (rounds_with within n) ≡ n
-number_is true n = refl
-number_is false n = refl
-
-rounds_fit : (within : Bool) (n : ℕ) (limit : Rounds) → rounds_of within n ≡ Ok limit
-    → (1 ≤ number_of limit) × (number_of limit ≤ 1_000_000)
-rounds_fit within n limit e =
-    let t = through (expect (are_rounds n) refusal.BadRounds) (λ _. Ok (rounds_with within n)) limit e in
-    let allowed : are_rounds n ≡ true = expected (are_rounds n) refusal.BadRounds t.value t.first in
-    let same : n ≡ number_of limit =
-    sym (number_is within n) ∙ ap number_of (same_value (rounds_with within n) limit t.rest) in
-    subst (λ (m : ℕ). (1 ≤ m) × (m ≤ 1_000_000)) same (grind (arith, nat_tests), grind (arith, nat_tests))
-
-every_fits : (n : ℕ) (rule : SplitRule) → every n ≡ Ok rule → HasNumber rule
-every_fits n rule e =
-    let t = through (expect (not (n == 0)) refusal.BadSplit) (λ _. Ok (split.Every n)) rule e in
-    let allowed : not (n == 0) ≡ true = expected (not (n == 0)) refusal.BadSplit t.value t.first in
-    let some : 1 ≤ n = grind (arith, nat_tests) in
-    subst HasNumber (same_value (split.Every n) rule t.rest) some
-
-split_fits : (d : Option SplitWord) (rule : SplitRule) → split_of d ≡ Ok rule → HasNumber rule
-split_fits None rule e = subst HasNumber (same_value split.Whole rule e) tt
-split_fits (Some split_word.Whole) rule e = subst HasNumber (same_value split.Whole rule e) tt
-split_fits (Some (split_word.Every n)) rule e = every_fits n rule e
-split_fits (Some split_word.Auto) rule e = subst HasNumber (same_value split.Auto rule e) tt
-
-way_fits : (limits : Limits) (way : Rounds × SplitRule) → limits_meant limits ≡ Ok way
-    → (1 ≤ number_of way.0) × (number_of way.0 ≤ 1_000_000) × HasNumber way.1
-way_fits limits way e =
-    let a = through (rounds_of limits.within limits.number) (λ limit. split_of limits.split >>= λ segments. Ok (limit, segments)) way e in
-    let b = through (split_of limits.split) (λ segments. Ok (a.value, segments)) way a.rest in
-    let allowed = rounds_fit limits.within limits.number a.value a.first in
-    subst (λ (w : Rounds × SplitRule). (1 ≤ number_of w.0) × (number_of w.0 ≤ 1_000_000) × HasNumber w.1)
-    (same_value (a.value, b.value) way b.rest) (allowed.0, allowed.1, split_fits limits.split b.value b.first)
-
 -- ---- statements
 
 -- what is known after a statement fits the graph, with one step more and at most one item of a kind
@@ -183,6 +143,7 @@ pub record Grows (g : GraphData) (k next : Known) : Type 0 where
   pub singles : length next.singles ≤ length k.singles + 1
   pub collections : length next.collections ≤ length k.collections + 1
   pub runs : length next.runs ≤ length k.runs + 1
+  pub files : next.files ≤ k.files + 1
   pub steps : length next.steps ≡ length k.steps + 1
 
 module _ (g : GraphData) (k : Known) (fit : KnownFits g k) where
@@ -194,7 +155,7 @@ module _ (g : GraphData) (k : Known) (fit : KnownFits g k) where
       collected g (length k.collections) (length k.runs) (meaning_of k.names name) found
       (λ x. named (MeaningFits g (length k.collections) (length k.runs)) k.names name x fit.names) e
 
-  kept_within : (name : List ℕ) (place : ℕ) → kept_of k.names name ≡ Ok place → place < length k.runs
+  pub kept_within : (name : List ℕ) (place : ℕ) → kept_of k.names name ≡ Ok place → place < length k.runs
   kept_within name place e =
       kept g (length k.collections) (length k.runs) (meaning_of k.names name) place
       (λ x. named (MeaningFits g (length k.collections) (length k.runs)) k.names name x fit.names) e
@@ -213,12 +174,17 @@ module _ (g : GraphData) (k : Known) (fit : KnownFits g k) where
       let here = All-get_or (λ (c : CollectionPlan). ViewsFit g c.views) k.collections found.0 (collection_plan [] []) within fit.collections in
       (within, here.few)
 
-  quiet_grows : (s : Step) → StepsFit (k.steps ++ s ∷ []) k.collections k.runs → Grows g k (with_step k s)
-  quiet_grows s steps = record {
-    fits = record { names = fit.names; singles = fit.singles; collections = fit.collections; runs = fit.runs; steps = steps };
+  -- one step more, by which no edge comes and no run is made
+  quiet : (s : Step) → comes s ≡ 0 → runs s ≡ 0 → ColumnsFit g s → CountsFit g (k.steps ++ s ∷ []) k.loaded k.edges k.numbers (length k.runs)
+  quiet s no_edge no_run columns = quiet_counts g k.steps k.loaded k.edges k.numbers (length k.runs) fit.counts s no_edge no_run columns
+
+  quiet_grows : (s : Step) → comes s ≡ 0 → runs s ≡ 0 → ColumnsFit g s → StepsFit k.loaded (k.steps ++ s ∷ []) k.collections k.runs → Grows g k (with_step k s)
+  quiet_grows s no_edge no_run columns steps = record {
+    fits = record { names = fit.names; singles = fit.singles; collections = fit.collections; runs = fit.runs; steps = steps; counts = quiet s no_edge no_run columns };
     singles = omega arith;
     collections = omega arith;
     runs = omega arith;
+    files = omega arith;
     steps = length-append k.steps (s ∷ []);
   }
 
@@ -240,11 +206,13 @@ module _ (g : GraphData) (k : Known) (fit : KnownFits g k) where
           singles = All-push (RuleFits g) k.singles rules fit.singles fitting;
           collections = fit.collections;
           runs = fit.runs;
-          steps = quiet_fits k.steps k.collections k.runs fit.steps step.Nothing refl refl (λ place. refl) tt;
+          steps = quiet_fits k.loaded k.steps k.collections k.runs fit.steps step.Nothing refl refl (λ place. refl) tt;
+          counts = quiet step.Nothing refl refl tt;
         };
         singles = omega arith;
         collections = omega arith;
         runs = omega arith;
+        files = omega arith;
         steps = length-append k.steps (step.Nothing ∷ []);
       })
 
@@ -272,11 +240,13 @@ module _ (g : GraphData) (k : Known) (fit : KnownFits g k) where
           singles = fit.singles;
           collections = All-push (λ (d : CollectionPlan). ViewsFit g d.views) k.collections c fit.collections fitting;
           runs = All-weaker (RunFits g n) (RunFits g now) (λ r. later_run g n now r wider) k.runs fit.runs;
-          steps = make_fits k.steps k.collections k.runs fit.steps name u.value;
+          steps = make_fits k.loaded k.steps k.collections k.runs fit.steps name u.value;
+          counts = quiet (step.Make n (length u.value)) refl refl tt;
         };
         singles = omega arith;
         collections = omega (arith, more);
         runs = omega arith;
+        files = omega arith;
         steps = length-append k.steps (step.Make n (length u.value) ∷ []);
       })
 
@@ -306,11 +276,13 @@ module _ (g : GraphData) (k : Known) (fit : KnownFits g k) where
           singles = fit.singles;
           collections = All-set (λ (d : CollectionPlan). ViewsFit g d.views) k.collections place c fitting fit.collections;
           runs = subst (λ (n : ℕ). All (RunFits g n) k.runs) (sym same) fit.runs;
-          steps = append_fits k.steps k.collections k.runs fit.steps place u.value within grown;
+          steps = append_fits k.loaded k.steps k.collections k.runs fit.steps place u.value within grown;
+          counts = quiet (append_step k.collections (with_views k.collections place u.value) place) refl refl tt;
         };
         singles = omega arith;
         collections = omega (arith, same);
         runs = omega arith;
+        files = omega arith;
         steps = length-append k.steps (append_step k.collections (with_views k.collections place u.value) place ∷ []);
       })
 
@@ -328,11 +300,13 @@ module _ (g : GraphData) (k : Known) (fit : KnownFits g k) where
           singles = fit.singles;
           collections = fit.collections;
           runs = fit.runs;
-          steps = quiet_fits k.steps k.collections k.runs fit.steps step.Nothing refl refl (λ place. refl) tt;
+          steps = quiet_fits k.loaded k.steps k.collections k.runs fit.steps step.Nothing refl refl (λ place. refl) tt;
+          counts = quiet step.Nothing refl refl tt;
         };
         singles = omega arith;
         collections = omega arith;
         runs = omega arith;
+        files = omega arith;
         steps = length-append k.steps (step.Nothing ∷ []);
       })
 
@@ -376,11 +350,11 @@ module _ (g : GraphData) (k : Known) (fit : KnownFits g k) where
       )
 
   -- the plan of a run fits the graph
-  planned_fits : (call : Call) (target : List ℕ) (limits : Limits) (keep : Option (List ℕ)) (planned : RunPlan)
+  planned_fits : (call : Call) (target : List ℕ) (limits : Limits) (keep : Option (List ℕ)) (planned : RunPlan) → IsUnkept limits.phases keep
       → run_planned g k.names call target limits keep ≡ Ok planned → RunFits g (length k.collections) planned
-  planned_fits call target limits keep planned e =
-      let made : ℕ × Program → Rounds × SplitRule → RunPlan =
-      λ it way. run_plan it.0 call it.1 way.0 (order_of limits.order) way.1 keep in
+  planned_fits call target limits keep planned unkept e =
+      let made : ℕ × Program → Way → RunPlan =
+      λ it way. run_plan it.0 call it.1 way (order_of limits.order) keep in
       let a = through (program_meant g k.names call target) (λ it. limits_meant limits >>= λ way. Ok (made it way)) planned e in
       let b = through (limits_meant limits) (λ way. Ok (made a.value way)) planned a.rest in
       let meant = meant_fits call target a.value a.first in
@@ -392,29 +366,33 @@ module _ (g : GraphData) (k : Known) (fit : KnownFits g k) where
         numbers = meant.3;
         some = way.0;
         limit = way.1;
-        split = way.2;
+        phases = both_kept limits.phases b.value.1 keep (way_phases limits b.value b.first) way.2 unkept;
+        split = way.3;
       })
 
-  run_grows : (next : Known) (call : Call) (target : List ℕ) (limits : Limits) (keep : Option (List ℕ))
-      → run g k call target limits keep ≡ Ok next → Grows g k next
-  run_grows next call target limits keep e =
-      let last : RunPlan → NameList → Judged Known = λ planned names. Ok (with_run k names planned) in
+  run_grows : (next : Known) (number : ℕ) (call : Call) (target : List ℕ) (limits : Limits) (keep : Option (List ℕ))
+      → number ≡ length k.steps + 2 → IsUnkept limits.phases keep → run g number k call target limits keep ≡ Ok next → Grows g k next
+  run_grows next number call target limits keep at unkept e =
+      let last : RunPlan → NameList → Judged Known = λ planned names. Ok (with_run k number names planned) in
       let taken = keep_added k.names k.runs keep in
       let a = through (run_planned g k.names call target limits keep) (λ planned. taken >>= last planned) next e in
       let b = through taken (last a.value) next a.rest in
       let more : length (k.runs ++ a.value ∷ []) ≡ length k.runs + 1 = length-append k.runs (a.value ∷ []) in
-      let fitting = planned_fits call target limits keep a.value a.first in
-      subst (Grows g k) (same_value (with_run k b.value a.value) next b.rest) (record {
+      let fitting = planned_fits call target limits keep a.value unkept a.first in
+      let counts = run_counts g k.steps k.loaded k.edges k.numbers (length k.runs) fit.counts number (step.Run (length k.runs)) at refl refl tt fit.steps.runs in
+      subst (Grows g k) (same_value (with_run k number b.value a.value) next b.rest) (record {
         fits = record {
           names = subst (λ (m : ℕ). All (NameFits g (length k.collections) m) b.value) (sym more) (keep_fits keep b.value b.first);
           singles = fit.singles;
           collections = fit.collections;
           runs = All-push (RunFits g (length k.collections)) k.runs a.value fit.runs fitting;
-          steps = run_fits k.steps k.collections k.runs fit.steps a.value;
+          steps = run_fits k.loaded k.steps k.collections k.runs fit.steps a.value;
+          counts = subst (CountsFit g (k.steps ++ step.Run (length k.runs) ∷ []) k.loaded k.edges (k.numbers ++ number ∷ [])) (sym more) counts;
         };
         singles = omega arith;
         collections = omega arith;
         runs = omega (arith, more);
+        files = omega arith;
         steps = length-append k.steps (step.Run (length k.runs) ∷ []);
       })
 
@@ -424,32 +402,92 @@ module _ (g : GraphData) (k : Known) (fit : KnownFits g k) where
       let within : s.value.0 < length k.collections = place_within name s.value s.first in
       let made : s.value.0 < sum_by makes k.steps = omega (arith, within, fit.steps.collections) in
       subst (Grows g k) (same_value (with_step k (step.ShowOrder s.value.0)) next s.rest)
-      (quiet_grows (step.ShowOrder s.value.0)
-      (quiet_fits k.steps k.collections k.runs fit.steps (step.ShowOrder s.value.0) refl refl (λ place. refl) made))
+      (quiet_grows (step.ShowOrder s.value.0) refl refl tt
+      (quiet_fits k.loaded k.steps k.collections k.runs fit.steps (step.ShowOrder s.value.0) refl refl (λ place. refl) made))
 
-  show_work_grows : (next : Known) (name : List ℕ) → show_work k name ≡ Ok next → Grows g k next
-  show_work_grows next name e =
-      let s = through (kept_of k.names name) (λ place. Ok (with_step k (step.ShowWork place))) next e in
+  show_tree_grows : (next : Known) (name : List ℕ) → show_tree k name ≡ Ok next → Grows g k next
+  show_tree_grows next name e =
+      let s = through (collection_of k.names name) (λ found. Ok (with_step k (step.ShowTree found.0))) next e in
+      let within : s.value.0 < length k.collections = place_within name s.value s.first in
+      let made : s.value.0 < sum_by makes k.steps = omega (arith, within, fit.steps.collections) in
+      subst (Grows g k) (same_value (with_step k (step.ShowTree s.value.0)) next s.rest)
+      (quiet_grows (step.ShowTree s.value.0) refl refl tt
+      (quiet_fits k.loaded k.steps k.collections k.runs fit.steps (step.ShowTree s.value.0) refl refl (λ place. refl) made))
+
+  insert_grows : (next : Known) (count : ℕ) → with_insert k count ≡ next → Grows g k next
+  insert_grows next count e =
+      let s = step.Insert k.edges count in
+      subst (Grows g k) e (record {
+        fits = record {
+          names = fit.names;
+          singles = fit.singles;
+          collections = fit.collections;
+          runs = fit.runs;
+          steps = quiet_fits k.loaded k.steps k.collections k.runs fit.steps s refl refl (λ place. refl) fit.counts.edges;
+          counts = insert_counts g k.steps k.loaded k.edges k.numbers (length k.runs) fit.counts count;
+        };
+        singles = omega arith;
+        collections = omega arith;
+        runs = omega arith;
+        files = omega arith;
+        steps = length-append k.steps (s ∷ []);
+      })
+
+  remove_grows : (next : Known) (tree : PredTree) → remove g k tree ≡ Ok next → Grows g k next
+  remove_grows next tree e =
+      let s = through (predicate g tree) (λ p. Ok (with_step k (step.Remove p))) next e in
+      subst (Grows g k) (same_value (with_step k (step.Remove s.value)) next s.rest)
+      (quiet_grows (step.Remove s.value) refl refl (predicate_fits g tree s.value s.first)
+      (quiet_fits k.loaded k.steps k.collections k.runs fit.steps (step.Remove s.value) refl refl (λ place. refl) tt))
+
+  sum_fits : (asked : Option (List ℕ)) (sum : Option ℕ) → sum_of g asked ≡ Ok sum → SumFits g sum
+  sum_fits None sum e = subst (SumFits g) (same_value {E = Refusal} None sum e) tt
+  sum_fits (Some property) sum e =
+      let s = through (int_column g.edge_columns property) (λ column. Ok (Some column)) sum e in
+      subst (SumFits g) (same_value (Some s.value) sum s.rest) (int_column_found g property s.value s.first)
+
+  aggregate_grows : (next : Known) (target by : List ℕ) (sum : Option (List ℕ)) → aggregate g k target by sum ≡ Ok next → Grows g k next
+  aggregate_grows next target by sum e =
+      let last : ℕ → ℕ → Option ℕ → Judged Known = λ place column summed. Ok (with_step k (step.Aggregate place column summed)) in
+      let a = through (collection_of k.names target) (λ found. column_of g.node_columns by >>= λ column. sum_of g sum >>= last found.0 column.0) next e in
+      let b = through (column_of g.node_columns by) (λ column. sum_of g sum >>= last a.value.0 column.0) next a.rest in
+      let c = through (sum_of g sum) (last a.value.0 b.value.0) next b.rest in
+      let it = step.Aggregate a.value.0 b.value.0 c.value in
+      let within : a.value.0 < length k.collections = place_within target a.value a.first in
+      let made : a.value.0 < sum_by makes k.steps = omega (arith, within, fit.steps.collections) in
+      let found : nat_lt b.value.0 (length g.node_columns) ≡ true = column_found g.node_columns by b.value b.first in
+      let there : b.value.0 < length g.node_columns = grind (arith, nat_tests) in
+      subst (Grows g k) (same_value (with_step k it) next c.rest)
+      (quiet_grows it refl refl (there, sum_fits sum c.value c.first)
+      (quiet_fits k.loaded k.steps k.collections k.runs fit.steps it refl refl (λ place. refl) made))
+
+  show_work_grows : (next : Known) (last : ℕ) (name : List ℕ) → show_work last k name ≡ Ok next → Grows g k next
+  show_work_grows next last name e =
+      let free : ℕ → Judged (Unit {0}) = λ place. expect (not (nat_lt (get_or k.numbers place 0) last)) refusal.WorkEdited in
+      let t = through (kept_of k.names name) (λ place. free place >>= λ _. Ok (with_step k (step.ShowWork place))) next e in
+      let u = through (free t.value) (λ _. Ok (with_step k (step.ShowWork t.value))) next t.rest in
+      let s : Through (kept_of k.names name) (λ place. Ok (with_step k (step.ShowWork place))) next = record { value = t.value; first = t.first; rest = u.rest } in
       let within : s.value < length k.runs = kept_within name s.value s.first in
       let made : s.value < sum_by runs k.steps = omega (arith, within, fit.steps.runs) in
       subst (Grows g k) (same_value (with_step k (step.ShowWork s.value)) next s.rest)
-      (quiet_grows (step.ShowWork s.value)
-      (quiet_fits k.steps k.collections k.runs fit.steps (step.ShowWork s.value) refl refl (λ place. refl) made))
+      (quiet_grows (step.ShowWork s.value) refl refl tt
+      (quiet_fits k.loaded k.steps k.collections k.runs fit.steps (step.ShowWork s.value) refl refl (λ place. refl) made))
 
-  pub statement_grows : (next : Known) (s : Statement) → statement_added g k s ≡ Ok next → Grows g k next
-  statement_grows next (statement.View name base tree) e = single_grows next name base tree e
-  statement_grows next (statement.Collection name base items) e = collection_grows next name base items e
-  statement_grows next (statement.Run call target within number o d keep phases) e =
-      run_grows next call target (limits_of within number o d) keep e
-  statement_grows next (statement.Program name params along start send gather update) e =
+  -- the statement has the next number
+  pub statement_grows : (m : Moment) → m.number ≡ length k.steps + 2 → (next : Known) (s : Statement) → statement_added g m k s ≡ Ok next → Grows g k next
+  statement_grows m at next (statement.View name base tree) e = single_grows next name base tree e
+  statement_grows m at next (statement.Collection name base items) e = collection_grows next name base items e
+  statement_grows m at next (statement.Run call target within number o d keep phases) e =
+      run_grows next m.number call target (limits_of within number o d phases) (keep_of phases keep) at (keep_unkept phases keep) e
+  statement_grows m at next (statement.Program name params along start send gather update) e =
       program_grows next name params along start send gather update e
-  statement_grows next (statement.Append target items) e = append_grows next target items e
-  statement_grows next (statement.ShowOrder name) e = show_order_grows next name e
-  statement_grows next (statement.ShowWork name) e = show_work_grows next name e
-  statement_grows next (statement.ShowTree name) e = absurd cc
-  statement_grows next (statement.Insert file) e = absurd cc
-  statement_grows next (statement.Remove rule) e = absurd cc
-  statement_grows next (statement.Aggregate target by sum) e = absurd cc
+  statement_grows m at next (statement.Append target items) e = append_grows next target items e
+  statement_grows m at next (statement.ShowOrder name) e = show_order_grows next name e
+  statement_grows m at next (statement.ShowWork name) e = show_work_grows next m.last_edit name e
+  statement_grows m at next (statement.ShowTree name) e = show_tree_grows next name e
+  statement_grows m at next (statement.Insert file) e = insert_grows next m.group (same_value (with_insert k m.group) next e)
+  statement_grows m at next (statement.Remove tree) e = remove_grows next tree e
+  statement_grows m at next (statement.Aggregate target by sum) e = aggregate_grows next target by sum e
 
 -- ---- the load
 
@@ -467,31 +505,47 @@ first_fit g =
     (program_first g (codes "wcc") callable.Wcc last tt
     (program_first g (codes "pagerank") callable.Pagerank [] tt (All-nil (NameFits g 0 0)))))
 
-no_steps : StepsFit [] [] []
-no_steps = record { collections = refl; runs = refl; views = λ place. refl; each = λ n lt. absurd (omega (arith, lt)) }
+no_steps : (loaded : ℕ) → StepsFit loaded [] [] []
+no_steps loaded = record { collections = refl; runs = refl; views = λ place. refl; each = λ n lt. absurd (omega (arith, lt)) }
+
+sum_none : (n : ℕ) → sum_by runs (take n []) ≡ 0
+sum_none zero = refl
+sum_none (suc n) = refl
 
 -- what the load gives, where it gives something
-pub loaded_so : (graph : List ℕ) (k : Known) → load graph ≡ Ok k → loaded graph ≡ k
-loaded_so graph k e =
-    let t = through (new_name first_names graph) (λ _. Ok (loaded graph)) k e in
-    same_value (loaded graph) k t.rest
+pub loaded_so : (count : ℕ) (graph : List ℕ) (k : Known) → load count graph ≡ Ok k → loaded graph count ≡ k
+loaded_so count graph k e =
+    let t = through (new_name first_names graph) (λ _. Ok (loaded graph count)) k e in
+    same_value (loaded graph count) k t.rest
 
 -- what is known after the load fits any graph, and is nothing but names
-pub record Begins (g : GraphData) (k : Known) : Type 0 where
+pub record Begins (g : GraphData) (count : ℕ) (k : Known) : Type 0 where
   pub fits : KnownFits g k
   pub small : IsSmall 0 k
+  pub none : k.steps ≡ []
   pub steps : length k.steps ≡ 0
+  pub edges : k.edges ≡ count
+  pub files : k.files ≡ 1
 
-pub load_begins : (g : GraphData) (graph : List ℕ) (k : Known) → load graph ≡ Ok k → Begins g k
-load_begins g graph k e =
-    subst (Begins g) (loaded_so graph k e) (record {
+pub load_begins : (g : GraphData) (count : ℕ) (graph : List ℕ) (k : Known) → load count graph ≡ Ok k → Begins g count k
+load_begins g count graph k e =
+    subst (Begins g count) (loaded_so count graph k e) (record {
       fits = record {
         names = All-push (NameFits g 0 0) first_names (graph, meaning.Base None) (first_fit g) tt;
         singles = All-nil (RuleFits g);
         collections = All-nil (λ (c : CollectionPlan). ViewsFit g c.views);
         runs = All-nil (RunFits g 0);
-        steps = no_steps;
+        steps = no_steps count;
+        counts = record {
+          columns = All-nil (ColumnsFit g);
+          edges = omega arith;
+          numbers = refl;
+          numbered = λ n place le lt. absurd (omega (arith, lt, le, sum_none n));
+        };
       };
-      small = record { singles = omega arith; collections = omega arith; runs = omega arith };
+      small = record { singles = omega arith; collections = omega arith; runs = omega arith; files = omega arith };
+      none = refl;
       steps = refl;
+      edges = refl;
+      files = refl;
     })

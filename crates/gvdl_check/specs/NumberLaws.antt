@@ -1,6 +1,6 @@
 -- No program of the plan of a script holds the number -(2^63).
 use Rattle.std.proofs.Common.{◌≡◌, ℕ, List, [], ◌∷◌, length, Ok}
-use Rattle.std.specs.Prelude.{All}
+use Rattle.std.specs.Prelude.{All, sum}
 use Rattle.std.proofs.lemmas.List.Elements.{All-nil, All-cons, All-head, All-tail}
 use Rattle.graph_model.specs.GraphData.{GraphData}
 use Rattle.gvdl_tree.specs.declared.script.Script.{Script}
@@ -28,6 +28,6 @@ each_free g n (run ∷ more) fit given =
     All-cons IsFree run more ((All-head (RunFits g n) run more fit).numbers (All-head IsGivenOther run more given))
     (each_free g n more (All-tail (RunFits g n) run more fit) (All-tail IsGivenOther run more given))
 
-pub no_lowest : (s : Script) (g : GraphData) (p : Plan) → IsWritten s → plan s g ≡ Ok p → HoldsNoLowest p
-no_lowest s g p written e =
-    each_free g (length p.collections) p.runs (plan_sound s g p e).fits.runs (calls_hold (λ c. HasNoLowest c.args) s g p (written_calls s written) e)
+pub no_lowest : (s : Script) (g : GraphData) (groups : List ℕ) (p : Plan) → IsWritten s → sum groups ≡ length g.ends → plan s g groups ≡ Ok p → HoldsNoLowest p
+no_lowest s g groups p written all e =
+    each_free g (length p.collections) p.runs (plan_sound s g groups p all e).fits.runs (calls_hold (λ c. HasNoLowest c.args) s g groups p (written_calls s written) e)

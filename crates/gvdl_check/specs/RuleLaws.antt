@@ -1,6 +1,6 @@
 -- The columns that a judged predicate names are columns of the graph.
 use Rattle.std.proofs.Common.{◌≡◌, ◌∙◌, ℕ, ◌+◌, ◌<◌, Bool, true, false, ◌&&◌, List, [], ◌∷◌, length}
-use Rattle.std.proofs.Common.{map, refl, sym, ap, subst, arith, if◌then◌else◌, Ok}
+use Rattle.std.proofs.Common.{map, suc, refl, sym, ap, subst, arith, if◌then◌else◌, slice_get, Some, Ok}
 use Rattle.std.specs.Prelude.{bytes_eq, nat_lt}
 use Rattle.std.specs.List.{list_all}
 use Rattle.std.proofs.lemmas.Bool.Decides.{nat_tests}
@@ -18,6 +18,7 @@ use Rattle.gvdl_tree.specs.declared.predicate.PredTree.TheOpen.{PredTree-F}
 use Rattle.gvdl_tree.specs.declared.predicate.PredTree.TheViews.{roll-PredTree}
 use Rattle.gvdl_tree.specs.declared.predicate.PredTree.TheFolds.{fold-roll-PredTree, map-PredTree}
 use Rattle.gvdl_tree.specs.declared.predicate.PredTree.TheFolds.{ind-PredTree}
+use Rattle.vertex_lang.specs.Leaves.{is_int}
 use Rattle.edge_predicates.specs.declared.pred.Cmp.{Cmp as CheckedCmp}
 use Rattle.edge_predicates.specs.declared.pred.Place.{Place}
 use Rattle.edge_predicates.specs.declared.pred.Place.TheVariants as place
@@ -30,11 +31,11 @@ use Rattle.edge_predicates.specs.declared.pred.Pred.TheOpen.{Pred-F}
 use Rattle.edge_predicates.specs.declared.pred.Pred.TheFolds.{fold-roll-Pred}
 use Rattle.gvdl_programs.specs.declared.refusal.Refusal.TheVariants as refusal
 use Rattle.gvdl_programs.specs.Judging.{Judged, ◌>>=◌, expect, each}
-use Rattle.gvdl_programs.specs.Columns.{column_from, column_of}
+use Rattle.gvdl_programs.specs.Columns.{column_from, column_of, int_column}
 use Rattle.gvdl_check.specs.Predicates.{source_placed, target_placed, placed, compares, sign_of}
 use Rattle.gvdl_check.specs.Predicates.{comparison, predicate, predicate_of}
-use Rattle.gvdl_check.specs.Fits.{place_fits, fits, fits_of}
-use Rattle.gvdl_programs.specs.JudgingLaws.{through, same_value}
+use Rattle.gvdl_check.specs.Fits.{place_fits, fits, fits_of, SumFits}
+use Rattle.gvdl_programs.specs.JudgingLaws.{through, same_value, expected}
 
 -- ---- columns
 
@@ -53,6 +54,28 @@ pub column_found : (columns : List Column) (name : List ℕ) (r : ℕ × Kind) �
 column_found columns name r e =
     let within : r.0 < 0 + length columns = column_within 0 columns name r e in
     grind (arith, nat_tests)
+
+-- a column of whole numbers is one of them
+kind_found : (n : ℕ) (columns : List Column) (name : List ℕ) (r : ℕ × Kind) → column_from n columns name ≡ Ok r → (i : ℕ) × (r.0 ≡ n + i) × (c : Column) × (slice_get columns i ≡ Some c) × (c.kind ≡ r.1)
+kind_found n [] name r e = absurd cc
+kind_found n (column ∷ more) name r e = by (bytes_eq column.name name) (kind_found (n + 1) more name r) e where
+  by : (b : Bool) → (column_from (n + 1) more name ≡ Ok r → (i : ℕ) × (r.0 ≡ n + 1 + i) × (c : Column) × (slice_get more i ≡ Some c) × (c.kind ≡ r.1))
+      → (if b then Ok (n, column.kind) else column_from (n + 1) more name) ≡ Ok r → (i : ℕ) × (r.0 ≡ n + i) × (c : Column) × (slice_get (column ∷ more) i ≡ Some c) × (c.kind ≡ r.1)
+  by true later e =
+      let same : (n, column.kind) ≡ r = same_value (n, column.kind) r e in
+      (0, omega (arith, ap (λ (p : ℕ × Kind). p.0) same), column, refl, ap (λ (p : ℕ × Kind). p.1) same)
+  by false later e =
+      let there = later e in
+      (suc there.0, omega (arith, there.1), there.2, there.3, there.4)
+
+pub int_column_found : (g : GraphData) (name : List ℕ) (column : ℕ) → int_column g.edge_columns name ≡ Ok column → SumFits g (Some column)
+int_column_found g name column e =
+    let a = through (column_of g.edge_columns name) (λ found. expect (is_int found.1) refusal.WrongType >>= λ _. Ok found.0) column e in
+    let b = through (expect (is_int a.value.1) refusal.WrongType) (λ _. Ok a.value.0) column a.rest in
+    let f = kind_found 0 g.edge_columns name a.value a.first in
+    let same : f.0 ≡ column = omega (arith, f.1, same_value a.value.0 column b.rest) in
+    let numbers : is_int f.2.kind ≡ true = ap is_int f.4 ∙ expected (is_int a.value.1) refusal.WrongType b.value b.first in
+    (f.2, ap (λ (i : ℕ). slice_get g.edge_columns i) (sym same) ∙ f.3, numbers)
 
 module _ (g : GraphData) where
   source_fits : (f : Field) (at : Place × Kind) → source_placed g f ≡ Ok at → place_fits g at.0 ≡ true

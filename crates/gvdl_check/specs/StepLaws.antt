@@ -24,43 +24,43 @@ use Rattle.gvdl_check.specs.Steps.{views_at}
 
 -- ---- one step more
 
-abbrev Each : List Step → Type 0
-Each steps = (n : ℕ) → n < length steps → Follows (take n steps) (get_or steps n step.Nothing)
+abbrev Each : ℕ → List Step → Type 0
+Each loaded steps = (n : ℕ) → n < length steps → Follows loaded (take n steps) (get_or steps n step.Nothing)
 
-each_push : (steps : List Step) (s : Step) → Each steps → Follows steps s → Each (steps ++ s ∷ [])
-each_push steps s all last n lt = elim (cases_lt n (length steps)) [
+each_push : (loaded : ℕ) (steps : List Step) (s : Step) → Each loaded steps → Follows loaded steps s → Each loaded (steps ++ s ∷ [])
+each_push loaded steps s all last n lt = elim (cases_lt n (length steps)) [
   | inl h ↦
       let front = take-append-le n steps (s ∷ []) (omega (arith, h)) in
       let here = get_or_append_left steps (s ∷ []) step.Nothing n h in
-      subst (λ (b : List Step). Follows b (get_or (steps ++ s ∷ []) n step.Nothing)) (sym front)
-      (subst (Follows (take n steps)) (sym here) (all n h))
+      subst (λ (b : List Step). Follows loaded b (get_or (steps ++ s ∷ []) n step.Nothing)) (sym front)
+      (subst (Follows loaded (take n steps)) (sym here) (all n h))
   | inr h ↦
       let same : length steps ≡ n = omega (arith, h, lt, length-append steps (s ∷ [])) in
       let front = take_at steps (s ∷ []) n same in
       let here = get_or_push steps s step.Nothing n same in
-      subst (λ (b : List Step). Follows b (get_or (steps ++ s ∷ []) n step.Nothing)) (sym front)
-      (subst (Follows steps) (sym here) last)
+      subst (λ (b : List Step). Follows loaded b (get_or (steps ++ s ∷ []) n step.Nothing)) (sym front)
+      (subst (Follows loaded steps) (sym here) last)
 ]
 
-module _ (steps : List Step) (cs : List CollectionPlan) (rs : List RunPlan) (fit : StepsFit steps cs rs) where
+module _ (loaded : ℕ) (steps : List Step) (cs : List CollectionPlan) (rs : List RunPlan) (fit : StepsFit loaded steps cs rs) where
   -- a step that makes nothing
-  pub quiet_fits : (s : Step) → makes s ≡ 0 → runs s ≡ 0 → ((place : ℕ) → gives place s ≡ 0) → Follows steps s
-      → StepsFit (steps ++ s ∷ []) cs rs
+  pub quiet_fits : (s : Step) → makes s ≡ 0 → runs s ≡ 0 → ((place : ℕ) → gives place s ≡ 0) → Follows loaded steps s
+      → StepsFit loaded (steps ++ s ∷ []) cs rs
   quiet_fits s no_collection no_run no_view last = record {
     collections = omega (arith, sum_by_push makes steps s, no_collection, fit.collections);
     runs = omega (arith, sum_by_push runs steps s, no_run, fit.runs);
     views = λ place. omega (arith, sum_by_push (gives place) steps s, no_view place, fit.views place);
-    each = each_push steps s fit.each last;
+    each = each_push loaded steps s fit.each last;
   }
 
-  pub run_fits : (r : RunPlan) → StepsFit (steps ++ step.Run (length rs) ∷ []) cs (rs ++ r ∷ [])
+  pub run_fits : (r : RunPlan) → StepsFit loaded (steps ++ step.Run (length rs) ∷ []) cs (rs ++ r ∷ [])
   run_fits r =
       let s = step.Run (length rs) in
       record {
         collections = omega (arith, sum_by_push makes steps s, fit.collections);
         runs = omega (arith, sum_by_push runs steps s, fit.runs, length-append rs (r ∷ []));
         views = λ place. omega (arith, sum_by_push (gives place) steps s, fit.views place);
-        each = each_push steps s fit.each (sym fit.runs);
+        each = each_push loaded steps s fit.each (sym fit.runs);
       }
 
   -- ---- a collection more
@@ -69,7 +69,7 @@ module _ (steps : List Step) (cs : List CollectionPlan) (rs : List RunPlan) (fit
   none_past place le = ap (λ (c : CollectionPlan). length c.views) (get_or_past cs place (collection_plan [] []) le)
 
   pub make_fits : (name : List ℕ) (views : List ViewPlan)
-      → StepsFit (steps ++ step.Make (length cs) (length views) ∷ []) (cs ++ collection_plan name views ∷ []) rs
+      → StepsFit loaded (steps ++ step.Make (length cs) (length views) ∷ []) (cs ++ collection_plan name views ∷ []) rs
   make_fits name views =
       let s = step.Make (length cs) (length views) in
       let c = collection_plan name views in
@@ -77,7 +77,7 @@ module _ (steps : List Step) (cs : List CollectionPlan) (rs : List RunPlan) (fit
         collections = omega (arith, sum_by_push makes steps s, fit.collections, length-append cs (c ∷ []));
         runs = omega (arith, sum_by_push runs steps s, fit.runs);
         views = given;
-        each = each_push steps s fit.each (sym fit.collections, fit.views (length cs) ∙ none_past (length cs) (omega arith));
+        each = each_push loaded steps s fit.each (sym fit.collections, fit.views (length cs) ∙ none_past (length cs) (omega arith));
       } where
         given : (place : ℕ) → sum_by (gives place) (steps ++ step.Make (length cs) (length views) ∷ [])
             ≡ length (views_in (cs ++ collection_plan name views ∷ []) place)
@@ -109,7 +109,7 @@ module _ (steps : List Step) (cs : List CollectionPlan) (rs : List RunPlan) (fit
   -- ---- more views in a collection
 
   pub append_fits : (place : ℕ) (views : List ViewPlan) → place < length cs → length (views_in cs place) ≤ length views
-      → StepsFit (steps ++ append_step cs (with_views cs place views) place ∷ []) (with_views cs place views) rs
+      → StepsFit loaded (steps ++ append_step cs (with_views cs place views) place ∷ []) (with_views cs place views) rs
   append_fits place views within grown =
       let s = append_step cs (with_views cs place views) place in
       let c = collection_plan (collection_at cs place).name views in
@@ -117,7 +117,7 @@ module _ (steps : List Step) (cs : List CollectionPlan) (rs : List RunPlan) (fit
         collections = omega (arith, sum_by_push makes steps s, fit.collections, length-set cs place c);
         runs = omega (arith, sum_by_push runs steps s, fit.runs);
         views = given;
-        each = each_push steps s fit.each (omega (arith, within, fit.collections), sym (fit.views place));
+        each = each_push loaded steps s fit.each (omega (arith, within, fit.collections), sym (fit.views place));
       } where
         here : length (views_in (with_views cs place views) place) ≡ length views
         here = ap (λ (d : CollectionPlan). length d.views)
@@ -162,8 +162,8 @@ next_count f steps n s lt is =
     let parts = sum_by_push f (take n steps) s in
     omega (arith, more, parts, first_count f steps (n + 1))
 
-module _ (p : Plan) (fit : StepsFit p.steps p.collections p.runs) where
-  step_fits : (n : ℕ) (s : Step) → n < length p.steps → get_or p.steps n step.Nothing ≡ s → Follows (take n p.steps) s
+module _ (p : Plan) (fit : StepsFit p.loaded p.steps p.collections p.runs) where
+  step_fits : (n : ℕ) (s : Step) → n < length p.steps → get_or p.steps n step.Nothing ≡ s → Follows p.loaded (take n p.steps) s
       → StepFits p n s
   step_fits n step.Nothing lt is h = tt
   step_fits n (step.Make place count) lt is h =
@@ -182,6 +182,10 @@ module _ (p : Plan) (fit : StepsFit p.steps p.collections p.runs) where
       (h.0, omega (arith, h.0, some, fit.collections), h.1, omega (arith, all, given, h.1, fit.views place))
   step_fits n (step.ShowOrder place) lt is h = (h, omega (arith, h, first_count makes p.steps n, fit.collections))
   step_fits n (step.ShowWork place) lt is h = (h, omega (arith, h, first_count runs p.steps n, fit.runs))
+  step_fits n (step.ShowTree place) lt is h = (h, omega (arith, h, first_count makes p.steps n, fit.collections))
+  step_fits n (step.Insert first count) lt is h = h
+  step_fits n (step.Remove rule) lt is h = tt
+  step_fits n (step.Aggregate place by sum) lt is h = (h, omega (arith, h, first_count makes p.steps n, fit.collections))
 
   pub each_fits : (n : ℕ) → n < length p.steps → StepFits p n (get_or p.steps n step.Nothing)
   each_fits n lt = step_fits n (get_or p.steps n step.Nothing) lt refl (fit.each n lt)

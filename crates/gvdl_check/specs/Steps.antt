@@ -1,5 +1,5 @@
--- What the steps of a plan count: collections, runs and views.
-use Rattle.std.specs.Prelude.{◌≡◌, ℕ, ◌+◌, ◌<◌, ◌≤◌, ◌==◌, List, length, take, get_or}
+-- What the steps of a plan count: collections, runs, views and edges.
+use Rattle.std.specs.Prelude.{◌≡◌, ℕ, ◌+◌, ◌<◌, ◌≤◌, ◌==◌, Bool, true, false, List, length, take, get_or}
 use Rattle.std.specs.Prelude.{if◌then◌else◌}
 use Rattle.std.specs.List.{sum_by}
 use Rattle.gvdl_check.specs.declared.plan.CollectionPlan.{CollectionPlan}
@@ -25,24 +25,39 @@ gives collection (step.Make place count) = if place == collection then count els
 gives collection (step.Append place first count) = if place == collection then count else 0
 gives collection _ = 0
 
--- A step behind these: what it makes has the next place, and what it names was made by them. What it
--- appends comes behind the views that the collection has by then.
-abbrev pub Follows : List Step → Step → Type 0
-Follows before step.Nothing = Unit {0}
-Follows before (step.Make place count) =
-    (place ≡ sum_by makes before) × (sum_by (gives place) before ≡ 0)
-Follows before (step.Run place) = place ≡ sum_by runs before
-Follows before (step.Append place first count) =
-    (place < sum_by makes before) × (first ≡ sum_by (gives place) before)
-Follows before (step.ShowOrder place) = place < sum_by makes before
-Follows before (step.ShowWork place) = place < sum_by runs before
+-- how many edges come with a step
+abbrev pub comes : Step → ℕ
+comes (step.Insert first count) = count
+comes _ = 0
 
--- steps that make these collections, with these views, and these runs
-pub record StepsFit (steps : List Step) (made : List CollectionPlan) (ran : List RunPlan) : Type 0 where
+-- by the step edges come or go
+abbrev pub edits : Step → Bool
+edits (step.Insert first count) = true
+edits (step.Remove rule) = true
+edits _ = false
+
+-- A step behind these, and behind a load of so many edges: what it makes has the next place, and what it names was made
+-- by them. What it appends comes behind the views that the collection has by then, and edges behind all that came before.
+abbrev pub Follows : ℕ → List Step → Step → Type 0
+Follows loaded before step.Nothing = Unit {0}
+Follows loaded before (step.Make place count) =
+    (place ≡ sum_by makes before) × (sum_by (gives place) before ≡ 0)
+Follows loaded before (step.Run place) = place ≡ sum_by runs before
+Follows loaded before (step.Append place first count) =
+    (place < sum_by makes before) × (first ≡ sum_by (gives place) before)
+Follows loaded before (step.ShowOrder place) = place < sum_by makes before
+Follows loaded before (step.ShowWork place) = place < sum_by runs before
+Follows loaded before (step.ShowTree place) = place < sum_by makes before
+Follows loaded before (step.Insert first count) = first ≡ loaded + sum_by comes before
+Follows loaded before (step.Remove rule) = Unit {0}
+Follows loaded before (step.Aggregate place by sum) = place < sum_by makes before
+
+-- steps behind a load of so many edges that make these collections, with these views, and these runs
+pub record StepsFit (loaded : ℕ) (steps : List Step) (made : List CollectionPlan) (ran : List RunPlan) : Type 0 where
   pub collections : sum_by makes steps ≡ length made
   pub runs : sum_by runs steps ≡ length ran
   pub views : (place : ℕ) → sum_by (gives place) steps ≡ length (views_in made place)
-  pub each : (n : ℕ) → n < length steps → Follows (take n steps) (get_or steps n step.Nothing)
+  pub each : (n : ℕ) → n < length steps → Follows loaded (take n steps) (get_or steps n step.Nothing)
 
 -- ---- at a step of a plan, which counts from 0
 
@@ -58,6 +73,10 @@ runs_at p n = sum_by runs (take n p.steps)
 abbrev pub views_at : Plan → ℕ → ℕ → ℕ
 views_at p n collection = sum_by (gives collection) (take n p.steps)
 
+-- how many edges came before this step, those that went again counted
+abbrev pub edges_at : Plan → ℕ → ℕ
+edges_at p n = p.loaded + sum_by comes (take n p.steps)
+
 -- What a step names is one of the plan, and was made before it. What it makes has the next place.
 abbrev pub StepFits : Plan → ℕ → Step → Type 0
 StepFits p n step.Nothing = Unit {0}
@@ -70,3 +89,7 @@ StepFits p n (step.Append place first count) =
     × (first + count ≤ length (views_in p.collections place))
 StepFits p n (step.ShowOrder place) = (place < collections_at p n) × (place < length p.collections)
 StepFits p n (step.ShowWork place) = (place < runs_at p n) × (place < length p.runs)
+StepFits p n (step.ShowTree place) = (place < collections_at p n) × (place < length p.collections)
+StepFits p n (step.Insert first count) = first ≡ edges_at p n
+StepFits p n (step.Remove rule) = Unit {0}
+StepFits p n (step.Aggregate place by sum) = (place < collections_at p n) × (place < length p.collections)

@@ -2,7 +2,7 @@
 
 ghost use Rattle.std.specs.Prelude.{◌≡◌};
 ghost use Rattle.gvdl_programs.specs.Judging.{Tells};
-ghost use Rattle.gvdl_check.specs.Plans.{are_rounds, rounds_of, order_of, every, split_of, limits_meant};
+ghost use Rattle.gvdl_check.specs.Plans.{are_rounds, rounds_of, order_of, are_phases, phases_of, every, split_of, limits_meant};
 
 use crate::plan::OrderRule;
 use gvdl_programs::{Refusal, Stop};
@@ -12,7 +12,9 @@ use vertex_lang::Rounds;
 
 const ROUND_LIMIT: u64 = 1_000_000;
 
-/// How long a run goes on, in which order it takes the views, and where it starts anew, as they are written.
+const PHASE_LIMIT: u64 = 1_000;
+
+/// How long a run goes on, how often, in which order it takes the views, and where it starts anew, as they are written.
 #[derive(Clone, Copy)]
 pub(crate) struct Limits {
     /// Whether it goes on `within` the number of rounds, and not for exactly so many.
@@ -20,6 +22,7 @@ pub(crate) struct Limits {
     pub(crate) number: u64,
     pub(crate) order: Option<OrderWord>,
     pub(crate) split: Option<SplitWord>,
+    pub(crate) phases: Option<u64>,
 }
 
 fn are_rounds(number: u64) -> bool
@@ -43,8 +46,7 @@ fn rounds_of(within: bool, number: u64) -> Result<Rounds, Stop>
     }
 }
 
-/// In which order a run takes the views: greedily, unless another order is written (a run in the order of a tree is refused
-/// before this is asked).
+/// In which order a run takes the views: greedily, unless another order is written.
 pub(crate) fn order_of(order: Option<OrderWord>) -> OrderRule
     ensures { result ≡ order_of order }
 {
@@ -52,7 +54,28 @@ pub(crate) fn order_of(order: Option<OrderWord>) -> OrderRule
         None => OrderRule::Greedy,
         Some(OrderWord::Greedy) => OrderRule::Greedy,
         Some(OrderWord::Declared) => OrderRule::Declared,
-        Some(OrderWord::Tree) => OrderRule::Greedy,
+        Some(OrderWord::Tree) => OrderRule::Tree,
+    }
+}
+
+fn are_phases(number: u64) -> bool
+    ensures { result ≡ are_phases number }
+{
+    1 <= number && number <= PHASE_LIMIT
+}
+
+// How often the rounds are done, where that is written.
+fn phases_of(phases: Option<u64>) -> Result<Option<u32>, Stop>
+    ensures { Tells (phases_of phases) result }
+{
+    match phases {
+        None => Ok(None),
+        Some(number) => {
+            if !are_phases(number) {
+                return Err(Stop::Refused(Refusal::BadRounds));
+            }
+            Ok(Some(number as u32))
+        }
     }
 }
 
@@ -79,12 +102,13 @@ fn split_of(split: Option<SplitWord>) -> Result<SplitRule, Stop>
 }
 
 impl Limits {
-    /// How long the run goes on, and then where it starts anew.
-    pub(crate) fn judged(self) -> Result<(Rounds, SplitRule), Stop>
+    /// How long the run goes on, how often, and then where it starts anew.
+    pub(crate) fn judged(self) -> Result<(Rounds, Option<u32>, SplitRule), Stop>
         ensures { Tells (limits_meant self) result }
     {
         let rounds = rounds_of(self.within, self.number)?;
+        let phases = phases_of(self.phases)?;
         let split = split_of(self.split)?;
-        Ok((rounds, split))
+        Ok((rounds, phases, split))
     }
 }

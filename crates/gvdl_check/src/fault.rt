@@ -1,7 +1,7 @@
 //! Why a script has no plan.
 
 ghost use Rattle.std.specs.Prelude.{◌≡◌};
-ghost use Rattle.gvdl_check.specs.Faults.{is_unbuilt, fault_at, stop_at};
+ghost use Rattle.gvdl_check.specs.Faults.{fault_at, stop_at};
 
 use gvdl_programs::{Refusal, Stop};
 use surge_outside::NoMemory;
@@ -26,9 +26,6 @@ pub enum CheckFault {
     /// The script has this fault, which is its first.
     #[error("{0}")]
     Fault(StatementFault),
-    /// No statement before this one has a fault, and this one is not built yet. Statements count from 1.
-    #[error("statement {0} is not built")]
-    NotBuilt(u32),
     /// A request for memory was refused.
     #[error("out of memory")]
     NoMemory,
@@ -44,23 +41,10 @@ impl From<NoMemory> for CheckFault {
     }
 }
 
-// Whether the statement is refused since it isn't built yet.
-fn is_unbuilt(refusal: Refusal) -> bool
-    ensures { result ≡ is_unbuilt refusal }
-{
-    match refusal {
-        Refusal::NotBuilt => true,
-        _ => false,
-    }
-}
-
 // A refusal of the statement with this number.
 fn fault_at(refusal: Refusal, statement: u32) -> CheckFault
     ensures { result ≡ fault_at statement refusal }
 {
-    if is_unbuilt(refusal) {
-        return CheckFault::NotBuilt(statement);
-    }
     CheckFault::Fault(StatementFault { statement, refusal })
 }
 

@@ -10,7 +10,6 @@
 //! what its plan holds.
 #![tactic(auto)]
 
-mod built;
 mod call;
 mod copies;
 mod fault;

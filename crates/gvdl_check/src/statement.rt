@@ -1,16 +1,15 @@
 //! Statements over what is known before them.
 
-ghost use Rattle.std.specs.Prelude.{◌≡◌, ◌<◌, ◌-◌, ◌^◌, length, IfOk, Some};
+ghost use Rattle.std.specs.Prelude.{◌≡◌, ◌<◌, ◌≤◌, ◌+◌, ◌-◌, ◌^◌, length, get_or, IfOk, Some};
 ghost use Rattle.gvdl_programs.specs.declared.template.Callable.{Callable};
 ghost use Rattle.gvdl_programs.specs.Judging.{Tells, Leaves};
 ghost use Rattle.gvdl_programs.specs.Fits.{ProgramFits};
-ghost use Rattle.gvdl_check.specs.Known.{first_names};
-ghost use Rattle.gvdl_check.specs.Plans.{load, single, collection, views_appended, append, program, program_meant};
-ghost use Rattle.gvdl_check.specs.Plans.{run_planned, run, show_order, show_work, statement_added, statement_built, statement_judged};
+ghost use Rattle.gvdl_check.specs.Known.{first_names, with_insert};
+ghost use Rattle.gvdl_check.specs.Plans.{group_at, load, single, collection, views_appended, append, program, program_meant};
+ghost use Rattle.gvdl_check.specs.Plans.{run_planned, run_added, keep_of, is_edit, edit_seen, last_edit, remove, sum_of, aggregate, show_order, show_tree, show_work, statement_added, statement_judged};
 ghost use Rattle.gvdl_check.specs.Names.{program_named};
 ghost use Rattle.gvdl_check.specs.Fits.{KnownFits, IsSmall};
 
-use crate::built::is_built;
 use crate::call::{Limits, order_of};
 use crate::copies::{copied_text, copied_words};
 use crate::form::suits;
@@ -23,12 +22,25 @@ use crate::predicate::predicate;
 use crate::singles::Singles;
 use edge_predicates::Pred;
 use graph_model::Graph;
-use gvdl_programs::{Callable, Refusal, Stop, WrittenProgram, call as called, declare};
+use gvdl_programs::{
+    Callable, Refusal, Stop, WrittenProgram, call as called, column_of, declare, int_column,
+};
 use gvdl_tree::{Call, Item, PredTree, Statement};
 use std::alloc::Global;
 use std::mem;
 use surge_outside::{List, NoMemory, Text};
 use vertex_lang::Program;
+
+/// What a statement is told of where it stands.
+#[derive(Clone, Copy)]
+pub(crate) struct Moment {
+    /// Its number.
+    pub(crate) number: u32,
+    /// The number of the last statement by which edges come or go; 0 where there is none.
+    pub(crate) last_edit: u32,
+    /// How many edges come with the next file.
+    pub(crate) group: u32,
+}
 
 // The names that stand from the start.
 fn first_names(alloc: Global) -> Result<Names, NoMemory>
@@ -42,9 +54,19 @@ fn first_names(alloc: Global) -> Result<Names, NoMemory>
     Ok(names)
 }
 
-/// What is known after the load of a graph with this name.
-pub(crate) fn load(alloc: Global, graph: &str) -> Result<Known, Stop>
-    ensures { Tells (load graph.now) result }
+/// How many edges come with the file that has this place among the edges file and those that the script inserts.
+pub(crate) fn group_at(groups: &[u32], place: u32) -> u32
+    ensures { result ≡ group_at groups.now place }
+{
+    match groups.get(place as usize) {
+        Some(count) => *count,
+        None => 0,
+    }
+}
+
+/// What is known after the load of a graph with this name, where so many edges come with the edges file.
+pub(crate) fn load(alloc: Global, graph: &str, loaded: u32) -> Result<Known, Stop>
+    ensures { Tells (load loaded graph.now) result }
 {
     let mut names = first_names(alloc)?;
     names.expect_new(graph)?;
@@ -54,7 +76,11 @@ pub(crate) fn load(alloc: Global, graph: &str) -> Result<Known, Stop>
         singles: Singles::new(alloc),
         collections: List::new(alloc),
         runs: List::new(alloc),
+        numbers: List::new(alloc),
         steps: List::new(alloc),
+        loaded,
+        edges: loaded,
+        files: 1,
     })
 }
 
@@ -212,7 +238,7 @@ fn run_planned(
     ensures { Tells (run_planned graph.now names.now call.now target.now limits keep.now) result }
 {
     let (collection, program) = program_meant(alloc, graph, names, call, target)?;
-    let (rounds, split) = limits.judged()?;
+    let (rounds, phases, split) = limits.judged()?;
     let (call, keep) = copied_words(alloc, call, keep)?;
     Ok(RunPlan {
         collection,
@@ -220,29 +246,98 @@ fn run_planned(
         program,
         rounds,
         order: order_of(limits.order),
+        phases,
         split,
         keep,
+        edited: false,
     })
 }
 
+// The name under which a run is kept: that which is written, but none where it has phases.
+fn keep_of<'a>(
+    phases: Option<u64>,
+    keep: &'a Option<Text>,
+    none: &'a Option<Text>,
+) -> &'a Option<Text>
+    requires { none.now ≡ None }
+    ensures { result.now ≡ keep_of phases keep.now }
+{
+    match phases {
+        None => keep,
+        Some(_) => none,
+    }
+}
+
+// A run that is planned, whose statement has this number, and that may be kept under a name.
 fn add_run(
     alloc: Global,
-    graph: &Graph,
+    number: u32,
     known: &mut Known,
-    call: &Call,
-    target: &str,
-    limits: Limits,
+    plan: RunPlan,
     keep: &Option<Text>,
 ) -> Result<(), Stop>
-    requires fits { KnownFits graph.now known.old }
     requires small { length known.old.runs < 2 ^ 32 }
-    ensures { Leaves (run graph.now known.old call.now target.now limits keep.now) result known.new }
+    ensures { Leaves (run_added number known.old plan keep.now) result known.new }
 {
-    let plan = run_planned(alloc, graph, &known.names, call, target, limits, keep)?;
     add_keep(alloc, &mut known.names, known.runs.as_slice(), keep)?;
     let run = known.runs.len() as u32;
     known.runs.push(plan)?;
+    known.numbers.push(number)?;
     known.steps.push(Step::Run { run })?;
+    Ok(())
+}
+
+// So many edges of a file.
+fn add_insert(known: &mut Known, count: u32) -> Result<(), Stop>
+    requires edges { known.old.edges + count < 2 ^ 32 }
+    requires files { known.old.files + 1 < 2 ^ 32 }
+    ensures { Leaves (Ok (with_insert known.old count)) result known.new }
+{
+    let first = known.edges;
+    known.edges = first + count;
+    known.files += 1;
+    known.steps.push(Step::Insert { first, count })?;
+    Ok(())
+}
+
+fn add_remove(alloc: Global, graph: &Graph, known: &mut Known, tree: &PredTree) -> Result<(), Stop>
+    ensures { Leaves (remove graph.now known.old tree.now) result known.new }
+{
+    let rule = predicate(alloc, graph, tree)?;
+    known.steps.push(Step::Remove { rule })?;
+    Ok(())
+}
+
+// The column of the edges that is summed, where one is.
+fn sum_of(graph: &Graph, sum: &Option<Text>) -> Result<Option<u32>, Stop>
+    ensures { Tells (sum_of graph.now sum.now) result }
+{
+    match sum {
+        None => Ok(None),
+        Some(property) => {
+            let column = int_column(graph.edge_columns().as_slice(), property.as_str())?;
+            Ok(Some(column))
+        }
+    }
+}
+
+fn add_aggregate(
+    graph: &Graph,
+    known: &mut Known,
+    target: &str,
+    by: &str,
+    sum: &Option<Text>,
+) -> Result<(), Stop>
+    ensures { Leaves (aggregate graph.now known.old target.now by.now sum.now) result known.new }
+{
+    let (collection, _base) = known.names.collection(target)?;
+    let (by, _kind) = column_of(graph.node_columns().as_slice(), by)?;
+    let sum = sum_of(graph, sum)?;
+    known.steps.push(Step::Aggregate {
+        collection,
+        by,
+        sum,
+    })?;
     Ok(())
 }
 
@@ -254,24 +349,48 @@ fn add_show_order(known: &mut Known, name: &str) -> Result<(), Stop>
     Ok(())
 }
 
-fn add_show_work(known: &mut Known, name: &str) -> Result<(), Stop>
-    ensures { Leaves (show_work known.old name.now) result known.new }
+fn add_show_tree(known: &mut Known, name: &str) -> Result<(), Stop>
+    ensures { Leaves (show_tree known.old name.now) result known.new }
+{
+    let (collection, _base) = known.names.collection(name)?;
+    known.steps.push(Step::ShowTree { collection })?;
+    Ok(())
+}
+
+// The number of the statement of the run with this place.
+fn number_at(numbers: &[u32], place: usize) -> u32
+    ensures { result ≡ get_or numbers.now place 0 }
+{
+    match numbers.get(place) {
+        Some(number) => *number,
+        None => 0,
+    }
+}
+
+// The run must not be kept while edges come or go, the last of which do by the statement with this number.
+fn add_show_work(known: &mut Known, last_edit: u32, name: &str) -> Result<(), Stop>
+    ensures { Leaves (show_work last_edit known.old name.now) result known.new }
 {
     let run = known.names.kept(name)?;
+    if number_at(known.numbers.as_slice(), run as usize) < last_edit {
+        return Err(Stop::Refused(Refusal::WorkEdited));
+    }
     known.steps.push(Step::ShowWork { run })?;
     Ok(())
 }
 
-// Judges a statement that suits the form of its script and is built, over what is known, and notes what is known after it.
+// Judges a statement that suits the form of its script over what is known, and notes what is known after it.
 fn add_any(
     alloc: Global,
     graph: &Graph,
+    moment: Moment,
     known: &mut Known,
     statement: &Statement,
 ) -> Result<(), Stop>
     requires fits { KnownFits graph.now known.old }
-    requires small { IsSmall (2 ^ 32 - 1) known.old }
-    ensures { Leaves (statement_added graph.now known.old statement.now) result known.new }
+    requires small { IsSmall (2 ^ 31) known.old }
+    requires edges { known.old.edges + moment.group < 2 ^ 32 }
+    ensures { Leaves (statement_added graph.now moment known.old statement.now) result known.new }
 {
     match statement {
         Statement::View { name, base, rule } => {
@@ -307,43 +426,33 @@ fn add_any(
             order,
             split,
             keep,
-            ..
+            phases,
         } => {
             let limits = Limits {
                 within: *within,
                 number: *number,
                 order: *order,
                 split: *split,
+                phases: *phases,
             };
-            add_run(alloc, graph, known, call, target.as_str(), limits, keep)
+            let none = None;
+            let keep = keep_of(*phases, keep, &none);
+            let names = &known.names;
+            let plan = run_planned(alloc, graph, names, call, target.as_str(), limits, keep)?;
+            add_run(alloc, moment.number, known, plan, keep)
         }
         Statement::Append { target, items } => {
             add_append(alloc, graph, known, target.as_str(), items.as_slice())
         }
         Statement::ShowOrder { name } => add_show_order(known, name.as_str()),
-        Statement::ShowWork { name } => add_show_work(known, name.as_str()),
-        Statement::ShowTree { .. }
-        | Statement::Insert { .. }
-        | Statement::Remove { .. }
-        | Statement::Aggregate { .. } => Err(Stop::Refused(Refusal::NotBuilt)),
+        Statement::ShowWork { name } => add_show_work(known, moment.last_edit, name.as_str()),
+        Statement::ShowTree { name } => add_show_tree(known, name.as_str()),
+        Statement::Insert { .. } => add_insert(known, moment.group),
+        Statement::Remove { rule } => add_remove(alloc, graph, known, rule),
+        Statement::Aggregate { target, by, sum } => {
+            add_aggregate(graph, known, target.as_str(), by.as_str(), sum)
+        }
     }
-}
-
-// Judges a statement that suits the form of its script.
-fn add_built(
-    alloc: Global,
-    graph: &Graph,
-    known: &mut Known,
-    statement: &Statement,
-) -> Result<(), Stop>
-    requires fits { KnownFits graph.now known.old }
-    requires small { IsSmall (2 ^ 32 - 1) known.old }
-    ensures { Leaves (statement_built graph.now known.old statement.now) result known.new }
-{
-    if !is_built(statement) {
-        return Err(Stop::Refused(Refusal::NotBuilt));
-    }
-    add_any(alloc, graph, known, statement)
 }
 
 /// Judges a statement of a script of this form over what is known, and notes what is known after it. After a refusal nothing
@@ -352,15 +461,48 @@ pub(crate) fn add_statement(
     alloc: Global,
     form: Option<u64>,
     graph: &Graph,
+    moment: Moment,
     known: &mut Known,
     statement: &Statement,
 ) -> Result<(), Stop>
     requires fits { KnownFits graph.now known.old }
-    requires small { IsSmall (2 ^ 32 - 1) known.old }
-    ensures { Leaves (statement_judged form graph.now known.old statement.now) result known.new }
+    requires small { IsSmall (2 ^ 31) known.old }
+    requires edges { known.old.edges + moment.group < 2 ^ 32 }
+    ensures { Leaves (statement_judged form graph.now moment known.old statement.now) result known.new }
 {
     if !suits(form, statement) {
         return Err(Stop::Refused(Refusal::NeedsForm));
     }
-    add_built(alloc, graph, known, statement)
+    add_any(alloc, graph, moment, known, statement)
+}
+
+fn is_edit(statement: &Statement) -> bool
+    ensures { result ≡ is_edit statement.now }
+{
+    match statement {
+        Statement::Insert { .. } | Statement::Remove { .. } => true,
+        _ => false,
+    }
+}
+
+// The number of the last statement so far by which edges come or go, where the next one has that number.
+fn edit_seen(statement: &Statement, number: u32, found: u32) -> u32
+    ensures { result ≡ edit_seen statement.now number found }
+{
+    if is_edit(statement) { number } else { found }
+}
+
+/// The number of the last of a script's statements by which edges come or go; 0 where there is none. The first of them is
+/// statement 2, behind the load.
+pub(crate) fn last_edit(statements: &[Statement]) -> u32
+    requires { length statements.now < 2 ^ 31 }
+    ensures { result ≡ last_edit statements.now }
+{
+    let mut number = 1;
+    let mut found = 0;
+    for statement in statements {
+        number += 1;
+        found = edit_seen(statement, number, found);
+    }
+    found
 }

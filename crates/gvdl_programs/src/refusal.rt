@@ -28,8 +28,8 @@ pub enum Refusal {
     BadSplit,
     /// A statement that only form 2 of the language has, in a script of form 1.
     NeedsForm,
-    /// A statement that the program doesn't execute yet.
-    NotBuilt,
+    /// A show of the work of a run that is kept while edges come or go.
+    WorkEdited,
 }
 
 /// Why judging came to an end.

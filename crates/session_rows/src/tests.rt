@@ -44,7 +44,9 @@ fn planned(alloc: Global, graph: &Graph, script: &str) -> Result<Plan, Fail>
         return Err(Fail::new("a long script"));
     }
     let tree = parse(alloc, script.as_bytes())?;
-    Ok(check(alloc, &tree, graph)?)
+    // (all edges came with one file)
+    let groups = [graph.edge_count()];
+    Ok(check(alloc, &tree, graph, &groups)?)
 }
 
 // What the next call of a session answers.

@@ -53,7 +53,6 @@ parse_stops job text (status.Data fault) h = absurd h
 parse_stops job text (status.Script refused.TooLarge) h = absurd h
 parse_stops job text (status.Script refused.BadForm) h = absurd h
 parse_stops job text (status.Script (refused.Statement fault)) h = absurd h
-parse_stops job text (status.Script (refused.NotBuilt n)) h = absurd h
 parse_stops job text (status.Script (refused.Text fault)) h = inr (record { holds = inr (fault, h.found, refl); only = fault_only job text fault h })
 parse_stops job text status.ReadFault h = absurd h
 parse_stops job text status.WriteFault h = absurd h

@@ -11,3 +11,4 @@ pub mod Endings
 pub mod Deciding
 pub mod Completing
 pub mod ReadingOnce
+pub mod Inserting

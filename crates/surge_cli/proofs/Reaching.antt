@@ -1,16 +1,17 @@
 -- A file that is absent, or whose reading failed, is one that was reached, and so is each that was asked for.
-use Rattle.std.proofs.Common.{◌≡◌, ◌∙◌, ◌≤◌, ℕ, List, Option, Result, Ok, Err, refl, sym, subst, inl, inr}
+use Rattle.std.proofs.Common.{◌≡◌, ◌∙◌, ◌≤◌, ℕ, List, Option, Result, Ok, Err, refl, sym, subst, arith, inl, inr}
 use Rattle.std.specs.Prelude.{IfErr, ◌⊎◌}
+use Rattle.graph_model.specs.GraphData.{GraphData}
 use Rattle.gvdl_tree.specs.declared.script.Script.{Script}
 use Rattle.surge_cli.specs.declared.status.FileRole.{FileRole}
 use Rattle.surge_cli.specs.declared.status.FileRole.TheVariants as role
 use Rattle.surge_cli.specs.declared.status.Status.{Status}
 use Rattle.surge_cli.specs.declared.status.Status.TheVariants as status
 use Rattle.surge_cli.specs.FilesState.{FilesState, GoesOn, AsksNoOther}
-use Rattle.surge_cli.specs.Expected.{Held}
-use Rattle.surge_cli.specs.Reaches.{HasScript, ReachesData, ReachesNamed}
+use Rattle.surge_cli.specs.Expected.{Held, Grouped, grouped, inserts_of}
+use Rattle.surge_cli.specs.Reaches.{HasScript, GivesGraph, ReachesData, ReachesNamed}
 use Rattle.surge_cli.specs.Causes.{AsksOnly, IsUpTo, UpTo, RisesAt, Counts, Causes}
-use Rattle.surge_cli.specs.Stages.{IsInner, IsFile, RisesBefore, StopsWords}
+use Rattle.surge_cli.specs.Stages.{IsInner, IsFile, IsBehind, RisesBefore, StopsWords}
 use Rattle.surge_cli.proofs.GoingOn.{risen_since}
 
 -- ---- places
@@ -24,6 +25,7 @@ pub data_named : (held : Option Held) (file : List ℕ) (script : Script) → Ha
 data_named held file script has role.Script n h = absurd h
 data_named held file script has role.Nodes n h = (script, has, h)
 data_named held file script has role.Edges n h = (script, has, h)
+data_named held file script has (role.Insert m) n h = (script, has, h)
 
 -- ---- what was asked
 
@@ -45,11 +47,13 @@ pub up_to_itself : (r : FileRole) → IsUpTo r r
 up_to_itself role.Script = tt
 up_to_itself role.Nodes = tt
 up_to_itself role.Edges = tt
+up_to_itself (role.Insert m) = omega arith
 
 pub script_first : (r : FileRole) → IsUpTo r role.Script
 script_first role.Script = tt
 script_first role.Nodes = tt
 script_first role.Edges = tt
+script_first (role.Insert m) = tt
 
 -- what was asked before stands before each file of the second stage
 abbrev pub StandsBefore : (P Q : FileRole → List ℕ → Type 0) (f g : List ℕ → ℕ) → Type 0
@@ -57,6 +61,28 @@ StandsBefore P Q f g = (r : FileRole) (n : List ℕ) → P r n → AsksOnly (UpT
 
 pub none_before : (P Q : FileRole → List ℕ → Type 0) (f : List ℕ → ℕ) → StandsBefore P Q f f
 none_before P Q f = λ r n is. asks_none (UpTo Q r) f
+
+-- ---- files that are inserted
+
+-- those that are put behind the graph of the data files
+pub behind_data : (held : Option Held) (script : Script) (graph : GraphData) → GivesGraph held script graph → (r : FileRole) (n : List ℕ) → IsBehind held (grouped graph) (inserts_of script) r n → ReachesData held script r n
+behind_data held script graph gives role.Script n h = absurd h
+behind_data held script graph gives role.Nodes n h = absurd h
+behind_data held script graph gives role.Edges n h = absurd h
+behind_data held script graph gives (role.Insert m) n h = (graph, gives, h)
+
+up_to_edges : (m : ℕ) (r : FileRole) → IsUpTo role.Edges r → IsUpTo (role.Insert m) r
+up_to_edges m role.Script h = tt
+up_to_edges m role.Nodes h = tt
+up_to_edges m role.Edges h = tt
+up_to_edges m (role.Insert k) h = absurd h
+
+-- the data files are asked for before them
+pub data_before : (P : FileRole → List ℕ → Type 0) (held : Option Held) (w : Grouped) (inserts : List (ℕ × List ℕ)) (f g : List ℕ → ℕ) → AsksOnly (UpTo P role.Edges) f g → StandsBefore (IsBehind held w inserts) P f g
+data_before P held w inserts f g h role.Script n is = absurd is
+data_before P held w inserts f g h role.Nodes n is = absurd is
+data_before P held w inserts f g h role.Edges n is = absurd is
+data_before P held w inserts f g h (role.Insert m) n is = λ name no. h name (λ r up. no r (up_to_edges m r up.0, up.1))
 
 -- ---- counts
 

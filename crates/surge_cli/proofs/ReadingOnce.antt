@@ -8,9 +8,10 @@ use Rattle.surge_cli.specs.declared.words.Source.TheVariants as source
 use Rattle.surge_cli.specs.declared.words.CommandLine.{CommandLine}
 use Rattle.surge_cli.specs.declared.words.CommandLine.TheVariants as line
 use Rattle.surge_cli.specs.FilesState.{FilesState, times, AsksEach, AsksBelow}
-use Rattle.surge_cli.specs.Expected.{Held}
+use Rattle.surge_cli.specs.Expected.{Held, inserts_of}
 use Rattle.surge_cli.specs.Reaches.{HasScript}
 use Rattle.surge_cli.specs.Once.{IsRead, IsReadOf, IsReadFor, AsksOnce}
+use Rattle.surge_cli.specs.Stages.{names_of}
 
 -- ---- the pieces of a file
 
@@ -35,8 +36,10 @@ each_first name names a b first = each_then name names a b b first (none_each na
 
 -- ---- the files of the words
 
-pub script_and_data : (held : Option Held) (file : List ℕ) (script : Script) (a b c : FilesState) → HasScript held file script → AsksEach (file ∷ []) a b → AsksEach (script.nodes ∷ script.edges ∷ []) b c → AsksOnce (IsRead held file) a c
-script_and_data held file script a b c has first second = (file ∷ script.nodes ∷ script.edges ∷ [], inr (script, has, refl), each_then file (script.nodes ∷ script.edges ∷ []) a b c first second)
+pub script_and_data : (held : Option Held) (file : List ℕ) (script : Script) (a b c : FilesState) → HasScript held file script → AsksEach (file ∷ []) a b → AsksEach (script.nodes ∷ script.edges ∷ names_of (inserts_of script)) b c → AsksOnce (IsRead held file) a c
+script_and_data held file script a b c has first second =
+    let rest = script.nodes ∷ script.edges ∷ names_of (inserts_of script) in
+    (file ∷ rest, inr (script, has, refl), each_then file rest a b c first second)
 
 pub script_alone : (held : Option Held) (file : List ℕ) (a b : FilesState) → AsksEach (file ∷ []) a b → AsksOnce (IsRead held file) a b
 script_alone held file a b first = (file ∷ [], inl refl, first)

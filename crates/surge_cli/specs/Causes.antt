@@ -1,5 +1,5 @@
 -- When a status may come, whatever the files tell, and what is reported of it.
-use Rattle.std.specs.Prelude.{◌≡◌, ◌⊎◌, ℕ, List, Ok, Err}
+use Rattle.std.specs.Prelude.{◌≡◌, ◌⊎◌, ◌≤◌, ℕ, List, Ok, Err}
 use Rattle.surge_outside.specs.Counts.{HasRisen}
 use Rattle.surge_outside.specs.Written.{appended, GrewByFront}
 use Rattle.surge_cli.specs.declared.status.FileRole.{FileRole}
@@ -44,8 +44,11 @@ NamesNone (line.Asked asked) = NamesNoFile asked.source
 abbrev pub AsksOnly : (FileRole → List ℕ → Type 0) → (old new : List ℕ → ℕ) → Type 0
 AsksOnly InPlace old new = (name : List ℕ) → ((role : FileRole) → InPlace role name → ⊥) → new name ≡ old name
 
--- the script is asked for first, then the nodes, and then the edges
+-- the script is asked for first, then the nodes, then the edges, and then the files that are inserted, in the order of their
+-- statements
 abbrev pub IsUpTo : (last role : FileRole) → Type 0
+IsUpTo (role.Insert m) (role.Insert n) = n ≤ m
+IsUpTo last (role.Insert n) = ⊥
 IsUpTo role.Script role.Nodes = ⊥
 IsUpTo role.Script role.Edges = ⊥
 IsUpTo role.Nodes role.Edges = ⊥

@@ -1,15 +1,18 @@
 -- What is expected of the program over files that are told: what is to be done, or the refusal. The first refusal in this
 -- order is the status: the words; the script fetched, and read; the nodes fetched; the edges fetched; the nodes and then
--- the edges read; the script checked against its graph.
-use Rattle.std.specs.Prelude.{◌≡◌, ◌⊎◌, ℕ, nat_lt, List, [], length, if◌then◌else◌, Option, Some, None, Result, Ok, Err}
+-- the edges read; each further file of edges fetched and read, in the order of its statement; the script checked against
+-- its graph.
+use Rattle.std.specs.Prelude.{◌≡◌, ◌⊎◌, ℕ, ◌+◌, ◌-◌, nat_lt, List, [], ◌∷◌, ◌++◌, length, if◌then◌else◌, Option, Some, None, Result, Ok, Err}
 use Rattle.surge_outside.specs.Held.{file_at}
 use Rattle.graph_model.specs.GraphData.{GraphData}
-use Rattle.graph_loader.specs.DataFiles.{graph_of}
+use Rattle.graph_loader.specs.DataFiles.{extended, graph_of}
 use Rattle.graph_loader.specs.declared.fault.DataFile.{DataFile}
 use Rattle.graph_loader.specs.declared.fault.DataFile.TheVariants as file
 use Rattle.graph_loader.specs.declared.fault.DataKind.TheVariants as wrong
 use Rattle.graph_loader.specs.declared.fault.DataFault.{DataFault}
 use Rattle.gvdl_tree.specs.declared.script.Script.{Script}
+use Rattle.gvdl_tree.specs.declared.script.Statement.{Statement}
+use Rattle.gvdl_tree.specs.declared.script.Statement.TheVariants as statement
 use Rattle.gvdl_parser.specs.declared.fault.ScriptFault.{ScriptFault}
 use Rattle.gvdl_parser.specs.Script.{IsScript, IsFirstFault}
 use Rattle.gvdl_check.specs.declared.fault.CheckFault.{CheckFault}
@@ -55,6 +58,7 @@ abbrev pub limit_of : FileRole → ℕ
 limit_of role.Script = script_limit
 limit_of role.Nodes = data_limit
 limit_of role.Edges = data_limit
+limit_of (role.Insert n) = data_limit
 
 -- the fault of a data file of more bytes than the limit; it is of no record
 abbrev pub too_large : DataFile → DataFault
@@ -65,6 +69,7 @@ abbrev pub large_of : FileRole → Status
 large_of role.Script = status.Script refused.TooLarge
 large_of role.Nodes = status.Data (too_large file.Nodes)
 large_of role.Edges = status.Data (too_large file.Edges)
+large_of (role.Insert n) = status.Data (too_large (file.Insert n))
 
 abbrev pub within_limit : FileRole → Option (List ℕ) → Result (List ℕ) Status
 within_limit role None = Err (status.Absent role)
@@ -81,13 +86,11 @@ abbrev pub loaded : Result GraphData DataFault → Result GraphData Status
 loaded (Ok graph) = Ok graph
 loaded (Err fault) = Err (status.Data fault)
 
--- the plan of the script over its graph, its first fault, or its first statement that isn't built yet (a plan's definition
--- never speaks of memory)
+-- the plan of the script over its graph, or its first fault (a plan's definition never speaks of memory)
 abbrev pub planned : Result Plan CheckFault → Result Plan Status
 planned (Ok plan) = Ok plan
 planned (Err check_fault.BadForm) = Err (status.Script refused.BadForm)
 planned (Err (check_fault.Fault fault)) = Err (status.Script (refused.Statement fault))
-planned (Err (check_fault.NotBuilt n)) = Err (status.Script (refused.NotBuilt n))
 planned (Err check_fault.NoMemory) = Err status.NoMemory
 
 -- the graph that these bytes of a nodes file and the edges file of a script spell
@@ -102,17 +105,71 @@ graph_for held script = do
   nodes ← fetched held role.Nodes script.nodes
   graph_with held script nodes
 
+-- ---- further files of edges
+
+-- the file that a statement with this number inserts, with that number
+abbrev pub insert_at : ℕ → Statement → List (ℕ × List ℕ)
+insert_at n (statement.Insert file) = (n, file) ∷ []
+insert_at n s = []
+
+-- the files that statements insert, each with the number of its statement, where the first of these has number n
+abbrev pub inserts_from : ℕ → List Statement → List (ℕ × List ℕ)
+inserts_from n [] = []
+inserts_from n (s ∷ more) = insert_at n s ++ inserts_from (n + 1) more
+
+abbrev pub inserts_of : Script → List (ℕ × List ℕ)
+inserts_of script = inserts_from 2 script.statements
+
+-- a graph, and how many of its edges came with each file
+pub record Grouped : Type 0 where
+  pub graph : GraphData
+  pub groups : List ℕ
+
+-- all of them with one
+abbrev pub grouped : GraphData → Grouped
+grouped g = record { graph = g; groups = length g.ends ∷ [] }
+
+-- with one more file behind
+abbrev pub longer : Grouped → GraphData → Grouped
+longer w h = record { graph = h; groups = w.groups ++ (length h.ends - length w.graph.ends) ∷ [] }
+
+-- with the edges of these bytes behind, of the file that this statement names
+abbrev pub with_bytes : Grouped → ℕ → List ℕ → Result Grouped Status
+with_bytes w n bytes = do
+  h ← loaded (extended n bytes w.graph)
+  Ok (longer w h)
+
+abbrev pub with_file : Held → Grouped → ℕ × List ℕ → Result Grouped Status
+with_file held w insert = do
+  bytes ← fetched held (role.Insert insert.0) insert.1
+  with_bytes w insert.0 bytes
+
+-- one after the other
+abbrev pub with_files : Held → Grouped → List (ℕ × List ℕ) → Result Grouped Status
+with_files held w [] = Ok w
+with_files held w (insert ∷ more) = do
+  next ← with_file held w insert
+  with_files held next more
+
+-- the graph that the data files of a script spell, with those that it inserts
+abbrev pub grouped_for : Held → Script → Result Grouped Status
+grouped_for held script = do
+  graph ← graph_for held script
+  with_files held (grouped graph) (inserts_of script)
+
+-- ---- the job
+
 -- what is to be done over this graph
-abbrev pub job_over : Task → Script → GraphData → Result Job Status
-job_over task script graph = do
-  p ← planned (plan script graph)
-  Ok (record { task = task; script = script; graph = graph; plan = p })
+abbrev pub job_over : Task → Script → Grouped → Result Job Status
+job_over task script w = do
+  p ← planned (plan script w.graph w.groups)
+  Ok (record { task = task; script = script; graph = w.graph; plan = p })
 
 -- what is to be done of the script
 abbrev pub job_for : Held → Task → Script → Result Job Status
 job_for held task script = do
-  graph ← graph_for held script
-  job_over task script graph
+  w ← grouped_for held script
+  job_over task script w
 
 -- ---- the script
 
@@ -135,7 +192,7 @@ sample_graph number = loaded (graph_of nodes_text (edges_text number))
 abbrev pub job_sampled : ℕ → Task → Script → Result Job Status
 job_sampled number task script = do
   graph ← sample_graph number
-  job_over task script graph
+  job_over task script (grouped graph)
 
 -- ---- the words
 

@@ -2,7 +2,8 @@
 use Rattle.std.specs.Prelude.{ℕ, List}
 use Rattle.vertex_lang.specs.Expressions.{Answer}
 use Rattle.gvdl_printer.specs.Canonical.{canonical}
-use Rattle.surge_session.specs.Output.{plan_text, plan_work}
+use Rattle.surge_session.specs.Output.{plan_text}
+use Rattle.surge_session.specs.Works.{plan_work}
 use Rattle.surge_cli.specs.declared.words.Task.{Task}
 use Rattle.surge_cli.specs.declared.words.Task.TheVariants as task
 use Rattle.surge_cli.specs.declared.job.Job.{Job}

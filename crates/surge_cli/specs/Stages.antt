@@ -1,6 +1,7 @@
 -- Internal: what each stage before the execution answers. No contract of a public function cites it.
-use Rattle.std.specs.Prelude.{◌≡◌, ◌⊎◌, ℕ, List, Option, IfSome, Result, Ok, Err}
+use Rattle.std.specs.Prelude.{◌≡◌, ◌⊎◌, ℕ, List, [], ◌∷◌, length, map, sum, Option, IfSome, Result, Ok, Err}
 use Rattle.gvdl_tree.specs.declared.script.Script.{Script}
+use Rattle.gvdl_tree.specs.declared.script.Statement.{Statement}
 use Rattle.gvdl_parser.specs.declared.fault.ScriptFault.{ScriptFault}
 use Rattle.gvdl_parser.specs.Script.{IsScript, IsFirstFault}
 use Rattle.surge_cli.specs.declared.script_line.ScriptRefusal.TheVariants as refused
@@ -12,8 +13,9 @@ use Rattle.surge_cli.specs.declared.words.CommandLine.TheVariants as line
 use Rattle.surge_cli.specs.declared.job.Job.{Job}
 use Rattle.surge_cli.specs.FilesState.{FilesState}
 use Rattle.surge_cli.specs.Words.{command_line}
-use Rattle.surge_cli.specs.Expected.{Held, Expectation, fetched, IsOnly}
-use Rattle.surge_cli.specs.Reaches.{IsFetched}
+use Rattle.surge_cli.specs.declared.stages.Loaded.{Loaded}
+use Rattle.surge_cli.specs.Expected.{Held, Expectation, Grouped, fetched, insert_at, IsOnly}
+use Rattle.surge_cli.specs.Reaches.{IsFetched, ReachesInsert}
 use Rattle.surge_cli.specs.Causes.{RisesAt}
 
 -- ---- from where a status comes
@@ -99,3 +101,33 @@ StopsParse text _ = ⊥
 -- why the reading of the script in the file of this name stopped: no text was fetched, or its reading stopped
 abbrev pub StopsScript : Option Held → List ℕ → Status → Type 0
 StopsScript held name s = IsSaidOf {A = List ℕ} held (λ files. fetched files role.Script name) (Err s) ⊎ ((text : List ℕ) × IsFetched held role.Script name text × StopsParse text s)
+
+-- ---- graphs with their files
+
+abbrev pub seen : Loaded → Grouped
+seen loaded = record { graph = loaded.graph; groups = loaded.groups }
+
+-- what a call leaves, where it answers that it succeeded
+abbrev pub result_of : {A B : Type 0} → Result A Status → B → Result B Status
+result_of (Ok a) left = Ok left
+result_of (Err s) left = Err s
+
+abbrev pub as_seen : Result Loaded Status → Result Grouped Status
+as_seen (Ok loaded) = Ok (seen loaded)
+as_seen (Err s) = Err s
+
+-- each edge came with one file
+abbrev pub AreGrouped : Loaded → Type 0
+AreGrouped loaded = sum loaded.groups ≡ length loaded.graph.ends
+
+abbrev pub names_of : List (ℕ × List ℕ) → List (List ℕ)
+names_of inserts = map (λ insert. insert.1) inserts
+
+-- the file that a statement with this number inserts
+abbrev pub IsInsert : ℕ → Statement → FileRole → List ℕ → Type 0
+IsInsert n s other name = (other ≡ role.Insert n) × (insert_at n s ≡ (n, name) ∷ [])
+
+-- one of the files that are put behind a graph
+abbrev pub IsBehind : Option Held → Grouped → List (ℕ × List ℕ) → FileRole → List ℕ → Type 0
+IsBehind held w inserts (role.Insert n) name = ReachesInsert held w inserts n name
+IsBehind held w inserts _ name = ⊥

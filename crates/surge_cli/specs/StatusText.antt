@@ -1,5 +1,5 @@
 -- The numbers and the lines of the program's answers.
-use Rattle.std.specs.Prelude.{ℕ, List, [], ◌∷◌, ◌++◌, codes, Option, Some, None}
+use Rattle.std.specs.Prelude.{ℕ, List, [], ◌∷◌, ◌++◌, codes}
 use Rattle.std.specs.Fmt.{decimal}
 use Rattle.graph_loader.specs.declared.fault.DataFile.{DataFile}
 use Rattle.graph_loader.specs.declared.fault.DataFile.TheVariants as file
@@ -17,17 +17,12 @@ use Rattle.surge_cli.specs.declared.status.FileRole.TheVariants as role
 use Rattle.surge_cli.specs.declared.status.Status.{Status}
 use Rattle.surge_cli.specs.declared.status.Status.TheVariants as status
 
--- the number of a refused script: of its own where a statement isn't built yet
-abbrev pub script_number : ScriptRefusal → ℕ
-script_number (refused.NotBuilt n) = 9
-script_number _ = 5
-
 abbrev pub status_number : Status → ℕ
 status_number status.Done = 0
 status_number status.Usage = 2
 status_number (status.Absent role) = 3
 status_number (status.Data fault) = 4
-status_number (status.Script fault) = script_number fault
+status_number (status.Script fault) = 5
 status_number status.ReadFault = 6
 status_number status.WriteFault = 7
 status_number status.NoMemory = 8
@@ -36,6 +31,7 @@ abbrev pub role_text : FileRole → List ℕ
 role_text role.Script = codes "script"
 role_text role.Nodes = codes "nodes"
 role_text role.Edges = codes "edges"
+role_text (role.Insert n) = codes "insert " ++ decimal n
 
 abbrev pub file_text : DataFile → List ℕ
 file_text file.Nodes = codes "nodes"
@@ -87,14 +83,13 @@ statement_refusal_name refusal.BadRounds = codes "BadRounds"
 statement_refusal_name refusal.TooManyKept = codes "TooManyKept"
 statement_refusal_name refusal.BadSplit = codes "BadSplit"
 statement_refusal_name refusal.NeedsForm = codes "NeedsForm"
-statement_refusal_name refusal.NotBuilt = codes "NotBuilt"
+statement_refusal_name refusal.WorkEdited = codes "WorkEdited"
 
 abbrev pub script_refusal_name : ScriptRefusal → List ℕ
 script_refusal_name refused.TooLarge = codes "TooLarge"
 script_refusal_name (refused.Text fault) = text_fault_name fault
 script_refusal_name refused.BadForm = codes "BadForm"
 script_refusal_name (refused.Statement fault) = statement_refusal_name fault.refusal
-script_refusal_name (refused.NotBuilt n) = codes "NotBuilt"
 
 abbrev pub place_text : (line column : ℕ) → List ℕ
 place_text line column = codes "line " ++ (decimal line ++ (codes " column " ++ (decimal column ++ codes ": ")))
@@ -115,26 +110,10 @@ where_text refused.TooLarge = []
 where_text (refused.Text fault) = text_fault_place fault
 where_text refused.BadForm = []
 where_text (refused.Statement fault) = statement_text fault.statement
-where_text (refused.NotBuilt n) = statement_text n
 
 -- where a script is refused, and why
-abbrev pub refused_line : ScriptRefusal → List ℕ
-refused_line why = codes "surge: script: " ++ (where_text why ++ (script_refusal_name why ++ 10 ∷ []))
-
--- of a statement that isn't built yet
-abbrev pub unbuilt_line : ℕ → List ℕ
-unbuilt_line n = codes "surge: not built: statement " ++ (decimal n ++ 10 ∷ [])
-
-abbrev pub unbuilt_of : ScriptRefusal → Option ℕ
-unbuilt_of (refused.NotBuilt n) = Some n
-unbuilt_of _ = None
-
-abbrev pub line_with : ScriptRefusal → Option ℕ → List ℕ
-line_with why None = refused_line why
-line_with why (Some n) = unbuilt_line n
-
 abbrev pub script_line : ScriptRefusal → List ℕ
-script_line why = line_with why (unbuilt_of why)
+script_line why = codes "surge: script: " ++ (where_text why ++ (script_refusal_name why ++ 10 ∷ []))
 
 -- one line, or nothing where the run is done
 abbrev pub status_line : Status → List ℕ

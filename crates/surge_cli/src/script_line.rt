@@ -1,7 +1,7 @@
 //! Why a script is refused, and the line that says so.
 
 ghost use Rattle.std.specs.Prelude.{◌≡◌, IfOk, string_bytes};
-ghost use Rattle.surge_cli.specs.StatusText.{script_number, text_fault_name, statement_refusal_name, script_refusal_name, text_fault_place, where_text, place_text, statement_text, refused_line, unbuilt_line, unbuilt_of, script_line};
+ghost use Rattle.surge_cli.specs.StatusText.{text_fault_name, statement_refusal_name, script_refusal_name, text_fault_place, where_text, place_text, statement_text, script_line};
 
 use gvdl_check::StatementFault;
 use gvdl_parser::ScriptFault;
@@ -20,19 +20,6 @@ pub enum ScriptRefusal {
     BadForm,
     /// The text is a script, and this is its first fault against its graph.
     Statement(StatementFault),
-    /// The text is a script, of which the statement with this number isn't built yet, and no earlier one has a fault. The
-    /// load is statement 1.
-    NotBuilt(u32),
-}
-
-/// The exit status of a process for a script that is refused so: 9 where a statement isn't built yet, and else 5.
-pub(crate) fn script_number(refusal: ScriptRefusal) -> u8
-    ensures { result ≡ script_number refusal }
-{
-    match refusal {
-        ScriptRefusal::NotBuilt(_) => 9,
-        _ => 5,
-    }
 }
 
 fn text_fault_name(fault: ScriptFault) -> &'static str
@@ -60,7 +47,7 @@ fn statement_refusal_name(refusal: Refusal) -> &'static str
         Refusal::TooManyKept => "TooManyKept",
         Refusal::BadSplit => "BadSplit",
         Refusal::NeedsForm => "NeedsForm",
-        Refusal::NotBuilt => "NotBuilt",
+        Refusal::WorkEdited => "WorkEdited",
     }
 }
 
@@ -72,7 +59,6 @@ fn refusal_name(refusal: ScriptRefusal) -> &'static str
         ScriptRefusal::Text(fault) => text_fault_name(fault),
         ScriptRefusal::BadForm => "BadForm",
         ScriptRefusal::Statement(fault) => statement_refusal_name(fault.refusal),
-        ScriptRefusal::NotBuilt(_) => "NotBuilt",
     }
 }
 
@@ -97,7 +83,6 @@ fn where_text(alloc: Global, refusal: ScriptRefusal) -> Result<String, NoMemory>
         ScriptRefusal::Text(fault) => text_fault_place(alloc, fault),
         ScriptRefusal::BadForm => Ok(String::new(alloc)),
         ScriptRefusal::Statement(fault) => statement_text(alloc, fault.statement),
-        ScriptRefusal::NotBuilt(statement) => statement_text(alloc, statement),
     }
 }
 
@@ -113,36 +98,9 @@ fn statement_text(alloc: Global, number: u32) -> Result<String, NoMemory>
     Ok(format!(in alloc; "statement {number}: ")?)
 }
 
-// The line of a statement that isn't built yet.
-fn unbuilt_line(alloc: Global, number: u32) -> Result<String, NoMemory>
-    ensures { IfOk result (λ line. string_bytes line ≡ unbuilt_line number) }
-{
-    Ok(format!(in alloc; "surge: not built: statement {number}\n")?)
-}
-
-// The number of the statement that isn't built yet, where that is why the script is refused.
-fn unbuilt_of(refusal: ScriptRefusal) -> Option<u32>
-    ensures { result ≡ unbuilt_of refusal }
-{
-    match refusal {
-        ScriptRefusal::NotBuilt(number) => Some(number),
-        _ => None,
-    }
-}
-
 /// The line of a refused script, with its line feed. The one error is want of memory.
 pub(crate) fn script_line(alloc: Global, refusal: ScriptRefusal) -> Result<String, NoMemory>
     ensures { IfOk result (λ line. string_bytes line ≡ script_line refusal) }
-{
-    match unbuilt_of(refusal) {
-        Some(number) => unbuilt_line(alloc, number),
-        None => refused_line(alloc, refusal),
-    }
-}
-
-// The line of a script with a fault, or of a script as such.
-fn refused_line(alloc: Global, refusal: ScriptRefusal) -> Result<String, NoMemory>
-    ensures { IfOk result (λ line. string_bytes line ≡ refused_line refusal) }
 {
     let place = where_text(alloc, refusal)?;
     let name = refusal_name(refusal);

@@ -5,7 +5,8 @@ ghost use Rattle.surge_outside.specs.Counts.{HasRisen};
 ghost use Rattle.surge_outside.specs.Written.{GrewByFront, appended};
 ghost use Rattle.gvdl_check.specs.Fits.{PlanFits};
 ghost use Rattle.gvdl_printer.specs.Canonical.{canonical};
-ghost use Rattle.surge_session.specs.Output.{plan_text, plan_work};
+ghost use Rattle.surge_session.specs.Output.{plan_text};
+ghost use Rattle.surge_session.specs.Works.{plan_work};
 ghost use Rattle.surge_cli.specs.Output.{output, job_work};
 
 use crate::job::Job;

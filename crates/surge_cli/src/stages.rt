@@ -1,19 +1,19 @@
 //! From the words to a job, stage by stage.
 
-ghost use Rattle.std.specs.Prelude.{◌≡◌, ◌<◌, ◌^◌, [], ◌∷◌, map, string_bytes, length, IfOk, IfErr};
-ghost use Rattle.graph_loader.specs.DataFiles.{graph_of};
+ghost use Rattle.std.specs.Prelude.{◌≡◌, ◌<◌, ◌≤◌, ◌+◌, ◌^◌, [], ◌∷◌, map, string_bytes, length, sum, IfOk, IfErr, OnOk};
+ghost use Rattle.graph_loader.specs.DataFiles.{extended, graph_of};
 ghost use Rattle.gvdl_check.specs.Fits.{PlanFits};
 ghost use Rattle.gvdl_check.specs.Plans.{plan};
 ghost use Rattle.gvdl_check.specs.Written.{IsWritten};
 ghost use Rattle.sample_data.specs.Sample.{script_text};
 ghost use Rattle.surge_cli.specs.FilesState.{GoesOn, AsksNoOther, AsksEach};
 ghost use Rattle.surge_cli.specs.Words.{command_line};
-ghost use Rattle.surge_cli.specs.Expected.{limit_of, too_large, large_of, fetched, loaded, planned, graph_with, graph_for, job_over, job_for, sample_graph, job_sampled, ExpectsOfText, ExpectsOfFile, ExpectsAsked, Expects, told_of, told};
+ghost use Rattle.surge_cli.specs.Expected.{limit_of, too_large, large_of, fetched, loaded, planned, graph_with, graph_for, insert_at, inserts_of, grouped, with_bytes, with_file, with_files, grouped_for, job_over, job_for, sample_graph, job_sampled, ExpectsOfText, ExpectsOfFile, ExpectsAsked, Expects, told_of, told};
 ghost use Rattle.surge_cli.specs.Headline.{AsksFor};
 ghost use Rattle.surge_cli.specs.Reaches.{IsTheScript, HasScript, ReachesData, ReachesNamed, ReachesAsked, Reaches};
-ghost use Rattle.surge_cli.specs.Causes.{OfWords, NamesNoFile, NamesNone, AsksOnly};
+ghost use Rattle.surge_cli.specs.Causes.{OfWords, NamesNoFile, NamesNone, AsksOnly, UpTo};
 ghost use Rattle.surge_cli.specs.Once.{IsRead, IsReadOf, AsksOnce, ReadsOnce};
-ghost use Rattle.surge_cli.specs.Stages.{IsStop, IsStage, IsInner, IsFile, RisesBefore, IsSaid, IsSaidOf, IsExpected, IsExpectedOf, StopsWords, StopsParse, StopsScript};
+ghost use Rattle.surge_cli.specs.Stages.{IsStop, IsStage, IsInner, IsFile, RisesBefore, IsSaid, IsSaidOf, IsExpected, IsExpectedOf, StopsWords, StopsParse, StopsScript, seen, as_seen, result_of, AreGrouped, names_of, IsInsert, IsBehind};
 
 use crate::job::Job;
 use crate::named_files::NamedFiles;
@@ -21,11 +21,11 @@ use crate::reading::{Reading, read_file};
 use crate::script_line::ScriptRefusal;
 use crate::status::{FileRole, Status};
 use crate::words::{Asked, CommandLine, Source, Task, command_line};
-use graph_loader::{DataFault, DataFile, DataKind, LoadFault, load};
+use graph_loader::{DataFault, DataFile, DataKind, LoadFault, extend, load};
 use graph_model::Graph;
 use gvdl_check::{CheckFault, Plan, check};
 use gvdl_parser::{ParseFault, parse};
-use gvdl_tree::Script;
+use gvdl_tree::{Script, Statement};
 use sample_data::{edges, nodes, script};
 use std::alloc::Global;
 use surge_outside::{List, NoMemory, Trouble};
@@ -38,6 +38,7 @@ fn limit_of(role: FileRole) -> usize
         FileRole::Script => 1_048_576,
         FileRole::Nodes => 268_435_456,
         FileRole::Edges => 268_435_456,
+        FileRole::Insert(_) => 268_435_456,
     }
 }
 
@@ -61,6 +62,7 @@ fn large_of(role: FileRole) -> Status
         FileRole::Script => Status::Script(ScriptRefusal::TooLarge),
         FileRole::Nodes => too_large(DataFile::Nodes),
         FileRole::Edges => too_large(DataFile::Edges),
+        FileRole::Insert(statement) => too_large(DataFile::Insert(statement)),
     }
 }
 
@@ -113,17 +115,22 @@ fn load_graph(alloc: Global, nodes: &[u8], edges: &[u8]) -> Result<Graph, Status
     }
 }
 
-fn plan_script(alloc: Global, script: &Script, graph: &Graph) -> Result<Plan, Status>
-    requires { IsWritten script.now }
-    ensures said { IsSaid (planned (plan script.now graph.now)) result }
+fn plan_script(
+    alloc: Global,
+    script: &Script,
+    graph: &Graph,
+    groups: &[u32],
+) -> Result<Plan, Status>
+    requires written { IsWritten script.now }
+    requires groups { sum groups.now ≡ length graph.now.ends }
+    ensures said { IsSaid (planned (plan script.now graph.now groups.now)) result }
     ensures fits { IfOk result (PlanFits graph.now) }
     ensures inner { IfErr result IsInner }
 {
-    match check(alloc, script, graph) {
+    match check(alloc, script, graph, groups) {
         Ok(plan) => Ok(plan),
         Err(CheckFault::BadForm) => Err(Status::Script(ScriptRefusal::BadForm)),
         Err(CheckFault::Fault(fault)) => Err(Status::Script(ScriptRefusal::Statement(fault))),
-        Err(CheckFault::NotBuilt(number)) => Err(Status::Script(ScriptRefusal::NotBuilt(number))),
         Err(CheckFault::NoMemory) => Err(Status::NoMemory),
     }
 }
@@ -154,7 +161,7 @@ fn load_data<F: NamedFiles>(alloc: Global, files: &mut F, script: &Script) -> Re
     ensures stage { IfErr result IsStage }
     ensures files { GoesOn (F.state files.old) (F.state files.new) }
     ensures causes { IfErr result (λ s. RisesBefore (ReachesData (F.state files.old).held script.now) s (F.state files.old) (F.state files.new)) }
-    ensures asked { AsksOnly (ReachesData (F.state files.old).held script.now) (F.state files.old).asked (F.state files.new).asked }
+    ensures asked { AsksOnly (UpTo (ReachesData (F.state files.old).held script.now) FileRole.Edges) (F.state files.old).asked (F.state files.new).asked }
     ensures once { AsksEach (script.now.nodes ∷ script.now.edges ∷ []) (F.state files.old) (F.state files.new) }
 {
     match fetch(alloc, files, FileRole::Nodes, script.nodes.as_str()) {
@@ -163,15 +170,193 @@ fn load_data<F: NamedFiles>(alloc: Global, files: &mut F, script: &Script) -> Re
     }
 }
 
+/// A graph, and how many of its edges came with the edges file, and with each further file.
+#[derive(Drop)]
+struct Loaded {
+    graph: Graph,
+    groups: List<u32>,
+}
+
+// All edges came with one file.
+fn loaded_at_once(alloc: Global, graph: Graph) -> Result<Loaded, Status>
+    ensures said { IfOk result (λ loaded. seen loaded ≡ grouped graph) }
+    ensures memory { IfErr result (λ s. s ≡ Status.NoMemory) }
+    ensures groups { IfOk result AreGrouped }
+{
+    let mut groups = List::new(alloc);
+    match groups.push(graph.edge_count()) {
+        Ok(()) => Ok(Loaded { graph, groups }),
+        Err(NoMemory) => Err(Status::NoMemory),
+    }
+}
+
+// How many edges there are more than before.
+fn edges_since(graph: &Graph, before: u32) -> u32
+    requires { before ≤ length graph.now.ends }
+    ensures { length graph.now.ends ≡ before + result }
+{
+    graph.edge_count() - before
+}
+
+// Puts the edges of these bytes, of the file that the statement with this number inserts, behind those of a graph, and answers
+// how many they are.
+fn extend_graph(
+    alloc: Global,
+    graph: &mut Graph,
+    statement: u32,
+    bytes: &[u8],
+) -> Result<u32, Status>
+    ensures said { IsSaid (loaded (extended statement bytes.now graph.old)) (result_of result graph.new) }
+    ensures count { IfOk result (λ count. length graph.new.ends ≡ length graph.old.ends + count) }
+    ensures inner { IfErr result IsInner }
+{
+    let before = graph.edge_count();
+    match extend(alloc, graph, bytes, statement) {
+        Ok(()) => Ok(edges_since(graph, before)),
+        Err(LoadFault::Fault(fault)) => Err(Status::Data(fault)),
+        Err(LoadFault::NoMemory) => Err(Status::NoMemory),
+    }
+}
+
+// The same, and counts them.
+fn add_bytes(alloc: Global, loaded: &mut Loaded, statement: u32, bytes: &[u8]) -> Result<(), Status>
+    requires { AreGrouped loaded.old }
+    ensures said { IsSaid (with_bytes (seen loaded.old) statement bytes.now) (result_of result (seen loaded.new)) }
+    ensures groups { OnOk result (AreGrouped loaded.new) }
+    ensures inner { IfErr result IsInner }
+{
+    match extend_graph(alloc, &mut loaded.graph, statement, bytes) {
+        Ok(count) => match loaded.groups.push(count) {
+            Ok(()) => Ok(()),
+            Err(NoMemory) => Err(Status::NoMemory),
+        },
+        Err(status) => Err(status),
+    }
+}
+
+// Adds the edges of the file of this name, which the statement with this number inserts.
+fn add_file<F: NamedFiles>(
+    alloc: Global,
+    files: &mut F,
+    loaded: &mut Loaded,
+    statement: u32,
+    name: &str,
+) -> Result<(), Status>
+    requires { AreGrouped loaded.old }
+    ensures said { IsSaidOf (F.state files.old).held (λ held. with_file held (seen loaded.old) (statement, name.now)) (result_of result (seen loaded.new)) }
+    ensures groups { OnOk result (AreGrouped loaded.new) }
+    ensures stage { IfErr result IsStage }
+    ensures files { GoesOn (F.state files.old) (F.state files.new) }
+    ensures causes { IfErr result (λ s. RisesBefore (IsFile (FileRole.Insert statement) name.now) s (F.state files.old) (F.state files.new)) }
+    ensures asked { AsksNoOther name.now (F.state files.old) (F.state files.new) }
+    ensures once { AsksEach (name.now ∷ []) (F.state files.old) (F.state files.new) }
+{
+    match fetch(alloc, files, FileRole::Insert(statement), name) {
+        Ok(bytes) => add_bytes(alloc, loaded, statement, bytes.as_slice()),
+        Err(status) => Err(status),
+    }
+}
+
+// Adds the edges of the file that this statement with this number inserts, where it inserts one.
+fn add_statement<F: NamedFiles>(
+    alloc: Global,
+    files: &mut F,
+    loaded: &mut Loaded,
+    number: u32,
+    statement: &Statement,
+) -> Result<(), Status>
+    requires { AreGrouped loaded.old }
+    ensures said { IsSaidOf (F.state files.old).held (λ held. with_files held (seen loaded.old) (insert_at number statement.now)) (result_of result (seen loaded.new)) }
+    ensures groups { OnOk result (AreGrouped loaded.new) }
+    ensures stage { IfErr result IsStage }
+    ensures files { GoesOn (F.state files.old) (F.state files.new) }
+    ensures causes { IfErr result (λ s. RisesBefore (IsInsert number statement.now) s (F.state files.old) (F.state files.new)) }
+    ensures asked { AsksOnly (IsInsert number statement.now) (F.state files.old).asked (F.state files.new).asked }
+    ensures once { AsksEach (names_of (insert_at number statement.now)) (F.state files.old) (F.state files.new) }
+{
+    match statement {
+        Statement::Insert { file } => add_file(alloc, files, loaded, number, file.as_str()),
+        _ => Ok(()),
+    }
+}
+
+// Adds the edges of all files that a script inserts, in the order of their statements.
+fn add_files<F: NamedFiles>(
+    alloc: Global,
+    files: &mut F,
+    mut loaded: Loaded,
+    script: &Script,
+) -> Result<Loaded, Status>
+    requires written { IsWritten script.now }
+    requires groups { AreGrouped loaded }
+    ensures said { IsSaidOf (F.state files.old).held (λ held. with_files held (seen loaded) (inserts_of script.now)) (as_seen result) }
+    ensures groups { IfOk result AreGrouped }
+    ensures stage { IfErr result IsStage }
+    ensures files { GoesOn (F.state files.old) (F.state files.new) }
+    ensures causes { IfErr result (λ s. RisesBefore (IsBehind (F.state files.old).held (seen loaded) (inserts_of script.now)) s (F.state files.old) (F.state files.new)) }
+    ensures asked { AsksOnly (IsBehind (F.state files.old).held (seen loaded) (inserts_of script.now)) (F.state files.old).asked (F.state files.new).asked }
+    ensures once { AsksEach (names_of (inserts_of script.now)) (F.state files.old) (F.state files.new) }
+{
+    let mut number = 1;
+    for statement in script.statements.as_slice() {
+        number += 1;
+        if let Err(status) = add_statement(alloc, files, &mut loaded, number, statement) {
+            return Err(status);
+        }
+    }
+    Ok(loaded)
+}
+
+// The graph of the data files, with the edges of those that a script inserts.
+fn with_inserts<F: NamedFiles>(
+    alloc: Global,
+    files: &mut F,
+    script: &Script,
+    graph: Graph,
+) -> Result<Loaded, Status>
+    requires { IsWritten script.now }
+    ensures said { IsSaidOf (F.state files.old).held (λ held. with_files held (grouped graph) (inserts_of script.now)) (as_seen result) }
+    ensures groups { IfOk result AreGrouped }
+    ensures stage { IfErr result IsStage }
+    ensures files { GoesOn (F.state files.old) (F.state files.new) }
+    ensures causes { IfErr result (λ s. RisesBefore (IsBehind (F.state files.old).held (grouped graph) (inserts_of script.now)) s (F.state files.old) (F.state files.new)) }
+    ensures asked { AsksOnly (IsBehind (F.state files.old).held (grouped graph) (inserts_of script.now)) (F.state files.old).asked (F.state files.new).asked }
+    ensures once { AsksEach (names_of (inserts_of script.now)) (F.state files.old) (F.state files.new) }
+{
+    match loaded_at_once(alloc, graph) {
+        Ok(loaded) => add_files(alloc, files, loaded, script),
+        Err(status) => Err(status),
+    }
+}
+
+// The graph that the data files of a script spell, with those that it inserts.
+fn load_all<F: NamedFiles>(alloc: Global, files: &mut F, script: &Script) -> Result<Loaded, Status>
+    requires { IsWritten script.now }
+    ensures said { IsSaidOf (F.state files.old).held (λ held. grouped_for held script.now) (as_seen result) }
+    ensures groups { IfOk result AreGrouped }
+    ensures stage { IfErr result IsStage }
+    ensures files { GoesOn (F.state files.old) (F.state files.new) }
+    ensures causes { IfErr result (λ s. RisesBefore (ReachesData (F.state files.old).held script.now) s (F.state files.old) (F.state files.new)) }
+    ensures asked { AsksOnly (ReachesData (F.state files.old).held script.now) (F.state files.old).asked (F.state files.new).asked }
+    ensures once { AsksEach (script.now.nodes ∷ script.now.edges ∷ names_of (inserts_of script.now)) (F.state files.old) (F.state files.new) }
+{
+    match load_data(alloc, files, script) {
+        Ok(graph) => with_inserts(alloc, files, script, graph),
+        Err(status) => Err(status),
+    }
+}
+
 // The job over this graph.
-fn job_over(alloc: Global, task: Task, script: Script, graph: Graph) -> Result<Job, Status>
-    requires { IsWritten script }
-    ensures said { IsSaid (job_over task script graph) result }
+fn job_over(alloc: Global, task: Task, script: Script, loaded: Loaded) -> Result<Job, Status>
+    requires written { IsWritten script }
+    requires groups { AreGrouped loaded }
+    ensures said { IsSaid (job_over task script (seen loaded)) result }
     ensures fits { IfOk result (λ job. PlanFits job.graph job.plan) }
     ensures task { IfOk result (λ job. task ≡ job.task) }
     ensures inner { IfErr result IsInner }
 {
-    match plan_script(alloc, &script, &graph) {
+    let Loaded { graph, groups } = loaded;
+    match plan_script(alloc, &script, &graph, groups.as_slice()) {
         Ok(plan) => Ok(Job {
             task,
             script,
@@ -197,10 +382,10 @@ fn job_for<F: NamedFiles>(
     ensures files { GoesOn (F.state files.old) (F.state files.new) }
     ensures causes { IfErr result (λ s. RisesBefore (ReachesData (F.state files.old).held script) s (F.state files.old) (F.state files.new)) }
     ensures asked { AsksOnly (ReachesData (F.state files.old).held script) (F.state files.old).asked (F.state files.new).asked }
-    ensures once { AsksEach (script.nodes ∷ script.edges ∷ []) (F.state files.old) (F.state files.new) }
+    ensures once { AsksEach (script.nodes ∷ script.edges ∷ names_of (inserts_of script)) (F.state files.old) (F.state files.new) }
 {
-    match load_data(alloc, files, &script) {
-        Ok(graph) => job_over(alloc, task, script, graph),
+    match load_all(alloc, files, &script) {
+        Ok(loaded) => job_over(alloc, task, script, loaded),
         Err(status) => Err(status),
     }
 }
@@ -258,6 +443,20 @@ fn load_sample(alloc: Global, number: u64) -> Result<Graph, Status>
     }
 }
 
+// The job of this script over a graph whose edges came with one file.
+fn job_over_graph(alloc: Global, task: Task, script: Script, graph: Graph) -> Result<Job, Status>
+    requires { IsWritten script }
+    ensures said { IsSaid (job_over task script (grouped graph)) result }
+    ensures fits { IfOk result (λ job. PlanFits job.graph job.plan) }
+    ensures task { IfOk result (λ job. task ≡ job.task) }
+    ensures inner { IfErr result IsInner }
+{
+    match loaded_at_once(alloc, graph) {
+        Ok(loaded) => job_over(alloc, task, script, loaded),
+        Err(status) => Err(status),
+    }
+}
+
 // The job of this script over the sample with this number.
 fn job_over_sample(alloc: Global, number: u64, task: Task, script: Script) -> Result<Job, Status>
     requires { IsWritten script }
@@ -267,7 +466,7 @@ fn job_over_sample(alloc: Global, number: u64, task: Task, script: Script) -> Re
     ensures inner { IfErr result IsInner }
 {
     match load_sample(alloc, number) {
-        Ok(graph) => job_over(alloc, task, script, graph),
+        Ok(graph) => job_over_graph(alloc, task, script, graph),
         Err(status) => Err(status),
     }
 }

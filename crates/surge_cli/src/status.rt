@@ -4,7 +4,7 @@ ghost use Rattle.std.specs.Prelude.{◌≡◌, IfOk, string_bytes};
 ghost use Rattle.std.specs.Cow.{cow_str_bytes};
 ghost use Rattle.surge_cli.specs.StatusText.{status_number, status_line, file_text, kind_text, fault_line};
 
-use crate::script_line::{ScriptRefusal, script_line, script_number};
+use crate::script_line::{ScriptRefusal, script_line};
 use graph_loader::{DataFault, DataFile, DataKind};
 use std::alloc::Global;
 use std::borrow::CowStr;
@@ -16,6 +16,8 @@ pub enum FileRole {
     Script,
     Nodes,
     Edges,
+    /// A further file of edges, which the statement with this number inserts.
+    Insert(u32),
 }
 
 /// How a run of the program ended.
@@ -96,7 +98,7 @@ impl Status {
             Status::Usage => 2,
             Status::Absent(_) => 3,
             Status::Data(_) => 4,
-            Status::Script(refusal) => script_number(*refusal),
+            Status::Script(_) => 5,
             Status::ReadFault => 6,
             Status::WriteFault => 7,
             Status::NoMemory => 8,
@@ -116,6 +118,9 @@ impl Status {
             Status::Absent(FileRole::Script) => fixed("surge: absent: script\n"),
             Status::Absent(FileRole::Nodes) => fixed("surge: absent: nodes\n"),
             Status::Absent(FileRole::Edges) => fixed("surge: absent: edges\n"),
+            Status::Absent(FileRole::Insert(statement)) => Ok(CowStr::Owned(format!(in alloc;
+                "surge: absent: insert {statement}\n"
+            )?)),
             Status::Data(fault) => Ok(CowStr::Owned(fault_line(alloc, *fault)?)),
             Status::Script(fault) => Ok(CowStr::Owned(script_line(alloc, *fault)?)),
             Status::ReadFault => fixed("surge: read fault\n"),

@@ -11,6 +11,7 @@ ghost use Rattle.surge_cli.specs.Completing.{Completes};
 
 mod lacking;
 mod starter;
+mod teller;
 mod unreadable;
 
 pub use lacking::{LackingFiles, LackingSink};
@@ -19,15 +20,18 @@ use std::alloc::{AllocError, Global};
 use std::sync::ledger::{Blank, Ledger};
 use surge_cli::{Status, surge};
 use surge_outside::{List, MemoryFiles, MemorySink, Sink, Steps, SureFiles, SureSink, Text};
+pub use teller::Teller;
 pub use unreadable::UnreadableFiles;
 use vertex_lang::Updater;
 
-/// What the files in memory hold, where they are there: the script `s`, and the data files `n4.csv` and `e1.csv`.
+/// What the files in memory hold, where they are there: the script `s`, the data files `n4.csv` and `e1.csv`, and a further
+/// file of edges `e2.csv`.
 #[derive(Clone, Copy)]
 pub struct Contents<'a> {
     pub script: &'a [u8],
     pub nodes: Option<&'a [u8]>,
     pub edges: Option<&'a [u8]>,
+    pub more: Option<&'a [u8]>,
 }
 
 /// What a run left: its status, and what was written.
@@ -71,6 +75,7 @@ pub fn held(alloc: Global, files: &Contents<'_>) -> Result<List<(Text, List<u8>)
     hold(alloc, &mut held, "s", Some(files.script))?;
     hold(alloc, &mut held, "n4.csv", files.nodes)?;
     hold(alloc, &mut held, "e1.csv", files.edges)?;
+    hold(alloc, &mut held, "e2.csv", files.more)?;
     Ok(List::from_vec(held))
 }
 

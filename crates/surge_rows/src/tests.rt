@@ -2,6 +2,7 @@
 
 ghost use Rattle.std.specs.Prelude.{◌≡◌, ◌≤◌};
 
+mod edits;
 mod faults;
 mod hostile;
 mod samples;
@@ -31,6 +32,7 @@ fn contents<'a>(script: &'a str, nodes: Option<&'a str>, edges: Option<&'a str>)
         script: script.as_bytes(),
         nodes: nodes.map(|text| text.as_bytes()),
         edges: edges.map(|text| text.as_bytes()),
+        more: None,
     }
 }
 

@@ -20,15 +20,21 @@ use Rattle.gvdl_check.specs.declared.plan.Step.{Step}
 use Rattle.gvdl_check.specs.declared.plan.Step.TheVariants as step
 use Rattle.gvdl_check.specs.declared.plan.Plan.{Plan}
 use Rattle.gvdl_check.specs.Fits.{PlanFits}
-use Rattle.gvdl_check.specs.Steps.{gives, runs, views_at, runs_at, StepFits}
+use Rattle.gvdl_check.specs.Steps.{edits, gives, runs, views_at, runs_at, StepFits}
 use Rattle.view_matrix.specs.Matrices.{MatrixData, column_of, live_of, bit_of, all_edges, edges_in, rule_columns, with_views, IsView}
 use Rattle.view_matrix.specs.ViewLaws.{same_kept}
 use Rattle.view_order.specs.Greedy.{numbers}
 use Rattle.view_engine.specs.declared.engine.Engine.{Engine}
 use Rattle.view_turns.specs.Agreeing.{stands_by_edges}
+use Rattle.view_versions.specs.declared.engine.VersionEngine.{VersionEngine}
+use Rattle.view_versions.specs.Laws.{StandsWithMore}
 use Rattle.surge_session.specs.declared.kept.Kept.{Kept}
+use Rattle.surge_session.specs.declared.kept.RunEngine.{RunEngine}
+use Rattle.surge_session.specs.declared.kept.RunEngine.TheVariants as run_engine
+use Rattle.surge_session.specs.Live.{LiveGraph, graph_at, live_at}
 use Rattle.surge_session.specs.Output.{made_at, keeps, kept_at, first_order, longer_order, order_after, order_at}
-use Rattle.surge_session.specs.State.{IsFor, HasRun, IsKept, MatricesAt, IsAt, places_of}
+use Rattle.surge_session.specs.State.{IsFor, HasRun, HasFollowed, HasRunIn, order_in, IsKept, MatricesAt, IsAt, places_of}
+use Rattle.surge_session.proofs.LiveFacts.{live_passed, graph_passed}
 use Rattle.surge_session.proofs.Places.{keeps_one, runs_more, made_rises, matrices_passed, views_same, kept_more, kept_same}
 use Rattle.surge_session.proofs.Texts.{found, any_default}
 
@@ -51,6 +57,10 @@ quiet_after g p run place n before (step.Run other) q = absurd q
 quiet_after g p run place n before (step.Append other first count) q = absurd q
 quiet_after g p run place n before (step.ShowOrder other) q = refl
 quiet_after g p run place n before (step.ShowWork other) q = refl
+quiet_after g p run place n before (step.ShowTree other) q = refl
+quiet_after g p run place n before (step.Insert first count) q = refl
+quiet_after g p run place n before (step.Remove rule) q = refl
+quiet_after g p run place n before (step.Aggregate other by sum) q = refl
 
 pub quiet_order : (g : GraphData) (p : Plan) (run : RunPlan) (place n : ℕ) (s : Step) → slice_get p.steps n ≡ Some s → IsQuiet s → order_at g p run place (n + 1) ≡ order_at g p run place n
 quiet_order g p run place n s at q = order_more g p run place n s at ∙ quiet_after g p run place n (order_at g p run place n) s q
@@ -59,23 +69,23 @@ quiet_order g p run place n s at q = order_more g p run place n s at ∙ quiet_a
 pub other_order : (g : GraphData) (p : Plan) (run : RunPlan) (place n other : ℕ) → slice_get p.steps n ≡ Some (step.Run other) → other ≢ place → order_at g p run place (n + 1) ≡ order_at g p run place n
 other_order g p run place n other at ne =
     order_more g p run place n (step.Run other) at
-    ∙ ap (λ (b : Bool). if b then first_order g run (made_at p (n + 1) run.collection) else order_at g p run place n) (ne_eqb other place ne)
+    ∙ ap (λ (b : Bool). if b then first_order (graph_at g p (n + 1)) run (made_at p (n + 1) run.collection) else order_at g p run place n) (ne_eqb other place ne)
 
 -- the run itself makes it
-pub own_order : (g : GraphData) (p : Plan) (run : RunPlan) (place n : ℕ) → slice_get p.steps n ≡ Some (step.Run place) → order_at g p run place (n + 1) ≡ first_order g run (made_at p (n + 1) run.collection)
+pub own_order : (g : GraphData) (p : Plan) (run : RunPlan) (place n : ℕ) → slice_get p.steps n ≡ Some (step.Run place) → order_at g p run place (n + 1) ≡ first_order (graph_at g p (n + 1)) run (made_at p (n + 1) run.collection)
 own_order g p run place n at =
     order_more g p run place n (step.Run place) at
-    ∙ ap (λ (b : Bool). if b then first_order g run (made_at p (n + 1) run.collection) else order_at g p run place n) (eq-eqb place place refl)
+    ∙ ap (λ (b : Bool). if b then first_order (graph_at g p (n + 1)) run (made_at p (n + 1) run.collection) else order_at g p run place n) (eq-eqb place place refl)
 
 less : (a b : ℕ) → a < b → nat_lt a b ≡ true
 less a b lt = grind (arith, nat_tests)
 
 pub longer : (g : GraphData) (p : Plan) (run : RunPlan) (place n first count : ℕ) → slice_get p.steps n ≡ Some (step.Append run.collection first count) → place < runs_at p n
-    → order_at g p run place (n + 1) ≡ longer_order g run (made_at p (n + 1) run.collection) (order_at g p run place n) (length (made_at p n run.collection))
+    → order_at g p run place (n + 1) ≡ longer_order (graph_at g p (n + 1)) run (made_at p (n + 1) run.collection) (order_at g p run place n) (length (made_at p n run.collection))
 longer g p run place n first count at lt =
     order_more g p run place n (step.Append run.collection first count) at
-    ∙ ap (λ (b : Bool). if b && run.collection == run.collection then longer_order g run (made_at p (n + 1) run.collection) (order_at g p run place n) (length (made_at p n run.collection)) else order_at g p run place n) (less place (runs_at p n) lt)
-    ∙ ap (λ (b : Bool). if b then longer_order g run (made_at p (n + 1) run.collection) (order_at g p run place n) (length (made_at p n run.collection)) else order_at g p run place n) (eq-eqb run.collection run.collection refl)
+    ∙ ap (λ (b : Bool). if b && run.collection == run.collection then longer_order (graph_at g p (n + 1)) run (made_at p (n + 1) run.collection) (order_at g p run place n) (length (made_at p n run.collection)) else order_at g p run place n) (less place (runs_at p n) lt)
+    ∙ ap (λ (b : Bool). if b then longer_order (graph_at g p (n + 1)) run (made_at p (n + 1) run.collection) (order_at g p run place n) (length (made_at p n run.collection)) else order_at g p run place n) (eq-eqb run.collection run.collection refl)
 
 and_no : (b : Bool) → (b && false) ≡ false
 and_no true = refl
@@ -85,8 +95,8 @@ pub elsewhere_order : (g : GraphData) (p : Plan) (run : RunPlan) (place n collec
     → order_at g p run place (n + 1) ≡ order_at g p run place n
 elsewhere_order g p run place n collection first count at ne =
     order_more g p run place n (step.Append collection first count) at
-    ∙ ap (λ (b : Bool). if nat_lt place (runs_at p n) && b then longer_order g run (made_at p (n + 1) run.collection) (order_at g p run place n) (length (made_at p n run.collection)) else order_at g p run place n) (ne_eqb collection run.collection ne)
-    ∙ ap (λ (b : Bool). if b then longer_order g run (made_at p (n + 1) run.collection) (order_at g p run place n) (length (made_at p n run.collection)) else order_at g p run place n) (and_no (nat_lt place (runs_at p n)))
+    ∙ ap (λ (b : Bool). if nat_lt place (runs_at p n) && b then longer_order (graph_at g p (n + 1)) run (made_at p (n + 1) run.collection) (order_at g p run place n) (length (made_at p n run.collection)) else order_at g p run place n) (ne_eqb collection run.collection ne)
+    ∙ ap (λ (b : Bool). if b then longer_order (graph_at g p (n + 1)) run (made_at p (n + 1) run.collection) (order_at g p run place n) (length (made_at p n run.collection)) else order_at g p run place n) (and_no (nat_lt place (runs_at p n)))
 
 -- ---- a kept run behind a statement that leaves its order as it is
 
@@ -98,9 +108,12 @@ kept_on answer g p n made k s at is same =
       run = is.run;
       at = is.at;
       earlier = omega (arith, is.earlier, runs_more p n s at);
+      named = is.named;
+      unphased = is.unphased;
       matrix = is.matrix;
       shown = is.shown;
-      has = subst (λ (order : List ℕ). HasRun answer g is.run is.matrix order k.engine) (sym same) is.has;
+      has = is.has;
+      order = is.order ∙ sym same;
       below = λ i d lt. let b = is.below i d lt in omega (arith, b, rises);
       count = omega (arith, is.count, rises);
     }
@@ -112,10 +125,11 @@ all_quiet answer g p n made kept s at q all = λ i d lt.
     kept_on answer g p n made (get_or kept i d) s at is (quiet_order g p is.run (get_or kept i d).place n s at q)
 
 -- behind a statement that changes nothing
-pub passed : (answer : Answer) (g : GraphData) (p : Plan) (n : ℕ) (made : List MatrixData) (kept : List Kept) (s : Step) → slice_get p.steps n ≡ Some s → IsQuiet s → ((place : ℕ) → gives place s ≡ 0) → keeps p s ≡ []
-    → IsAt answer g p n made kept → IsAt answer g p (n + 1) made kept
-passed answer g p n made kept s at q none unkept is = record {
-  matrices = matrices_passed g p n made (λ place. views_same p n place s at (none place)) is.matrices;
+pub passed : (answer : Answer) (g : GraphData) (p : Plan) (n : ℕ) (live : List Bool) (made : List MatrixData) (kept : List Kept) (s : Step) → slice_get p.steps n ≡ Some s → IsQuiet s → edits s ≡ false → ((place : ℕ) → gives place s ≡ 0) → keeps p s ≡ []
+    → IsAt answer g p n live made kept → IsAt answer g p (n + 1) live made kept
+passed answer g p n live made kept s at q other none unkept is = record {
+  live = is.live ∙ sym (live_passed g p n s at other);
+  matrices = matrices_passed g p n made (λ place. views_same p n place s at (none place)) (graph_passed g p n s at other) is.matrices;
   places = is.places ∙ sym (kept_same p n s at unkept);
   each = all_quiet answer g p n made kept s at q is.each;
 }
@@ -132,25 +146,36 @@ one : {X : Type 0} (P : X → Type 0) (x : X) → P x → All P (x ∷ [])
 one P x h zero d lt = h
 one P x h (suc i) d lt = absurd (omega (arith, lt))
 
-pub one_kept_more : (answer : Answer) (g : GraphData) (p : Plan) (n place : ℕ) (made : List MatrixData) (kept : List Kept) (run : RunPlan) (engine : Engine) (m : MatrixData) (k : Kept) → k ≡ record { place = place; engine = engine }
-    → slice_get p.steps n ≡ Some (step.Run place) → slice_get p.runs place ≡ Some run → place ≡ runs_at p n → slice_get made run.collection ≡ Some m
-    → HasRun answer g run m (order_at g p run place (n + 1)) engine → length engine.order ≤ length (made_at p n run.collection) → length m.columns ≡ length (made_at p n run.collection)
-    → keeps p (step.Run place) ≡ place ∷ [] → IsAt answer g p n made kept → IsAt answer g p (n + 1) made (kept ++ k ∷ [])
-one_kept_more answer g p n place made kept run engine m k is_k at run_at new shown has count columns named is =
+-- what was run are views of the matrix, where the run is in no phases
+pub run_views_in : (answer : Answer) (g : GraphData) (run : RunPlan) (m : MatrixData) (engine : RunEngine) → run.phases ≡ None → HasRunIn answer g run m engine → All (IsView m) (order_in engine)
+run_views_in answer g run m (run_engine.Plain e) unphased has = has.1.is.stands.views
+run_views_in answer g run m (run_engine.Versions e) unphased has = has.1.stands.views
+run_views_in answer g run m (run_engine.Phased results) unphased has = absurd (let e : None ≡ Some has.0 = sym unphased ∙ has.1.phases in cc)
+
+pub one_kept_more : (answer : Answer) (g : GraphData) (p : Plan) (n place : ℕ) (live : List Bool) (made : List MatrixData) (kept : List Kept) (run : RunPlan) (engine : RunEngine) (m : MatrixData) (k : Kept) → k ≡ record { place = place; engine = engine }
+    → slice_get p.steps n ≡ Some (step.Run place) → slice_get p.runs place ≡ Some run → is_some run.keep ≡ true → run.phases ≡ None → place ≡ runs_at p n → slice_get made run.collection ≡ Some m
+    → HasRunIn answer g run m engine → numbers (order_in engine) ≡ order_at g p run place (n + 1) → length (order_in engine) ≤ length (made_at p n run.collection) → length m.columns ≡ length (made_at p n run.collection)
+    → keeps p (step.Run place) ≡ place ∷ [] → IsAt answer g p n live made kept → IsAt answer g p (n + 1) live made (kept ++ k ∷ [])
+one_kept_more answer g p n place live made kept run engine m k is_k at run_at called unphased new shown has ordered count columns named is =
     let rises : length (made_at p n run.collection) ≤ length (made_at p (n + 1) run.collection) = made_rises p n run.collection (step.Run place) at in
     let more : runs_at p (n + 1) ≡ runs_at p n + runs (step.Run place) = runs_more p n (step.Run place) at in
+    let views : All (IsView m) (order_in engine) = run_views_in answer g run m engine unphased has in
     let kept_one : IsKept answer g p (n + 1) made (record { place = place; engine = engine }) = record {
       run = run;
       at = run_at;
+      named = called;
       earlier = omega (arith, new, more);
+      unphased = unphased;
       matrix = m;
       shown = shown;
       has = has;
-      below = λ i d lt. let b = has.is.stands.views i d lt in omega (arith, b, columns, rises);
+      order = ordered;
+      below = λ i d lt. let b = views i d lt in omega (arith, b, columns, rises);
       count = omega (arith, count, rises);
     } in
     record {
-      matrices = matrices_passed g p n made (λ other. views_same p n other (step.Run place) at refl) is.matrices;
+      live = is.live ∙ sym (live_passed g p n (step.Run place) at refl);
+      matrices = matrices_passed g p n made (λ other. views_same p n other (step.Run place) at refl) (graph_passed g p n (step.Run place) at refl) is.matrices;
       places =
           map-append (λ (x : Kept). x.place) kept (k ∷ []) ∙ ap (λ (x : Kept). places_of kept ++ x.place ∷ []) is_k ∙ ap (λ (ps : List ℕ). ps ++ place ∷ []) is.places
           ∙ ap (λ (ps : List ℕ). kept_at p n ++ ps) (sym named) ∙ sym (kept_more p n (step.Run place) at);
@@ -159,10 +184,11 @@ one_kept_more answer g p n place made kept run engine m k is_k at run_at new sho
           (one (IsKept answer g p (n + 1) made) k (subst (λ (x : Kept). IsKept answer g p (n + 1) made x) (sym is_k) kept_one));
     }
 
-pub unkept_more : (answer : Answer) (g : GraphData) (p : Plan) (n place : ℕ) (made : List MatrixData) (kept : List Kept) → slice_get p.steps n ≡ Some (step.Run place) → place ≡ runs_at p n → keeps p (step.Run place) ≡ []
-    → IsAt answer g p n made kept → IsAt answer g p (n + 1) made kept
-unkept_more answer g p n place made kept at new unnamed is = record {
-  matrices = matrices_passed g p n made (λ other. views_same p n other (step.Run place) at refl) is.matrices;
+pub unkept_more : (answer : Answer) (g : GraphData) (p : Plan) (n place : ℕ) (live : List Bool) (made : List MatrixData) (kept : List Kept) → slice_get p.steps n ≡ Some (step.Run place) → place ≡ runs_at p n → keeps p (step.Run place) ≡ []
+    → IsAt answer g p n live made kept → IsAt answer g p (n + 1) live made kept
+unkept_more answer g p n place live made kept at new unnamed is = record {
+  live = is.live ∙ sym (live_passed g p n (step.Run place) at refl);
+  matrices = matrices_passed g p n made (λ other. views_same p n other (step.Run place) at refl) (graph_passed g p n (step.Run place) at refl) is.matrices;
   places = is.places ∙ sym (kept_same p n (step.Run place) at unnamed);
   each = all_other answer g p n place made kept at new is.each;
 }
@@ -181,7 +207,7 @@ all_cons : {X : Type 0} (P : X → Type 0) (x : X) (xs : List X) → P x → All
 all_cons P x xs p all zero d lt = p
 all_cons P x xs p all (suc k) d lt = all k d (omega (arith, lt))
 
-numbered : (P : ℕ → Type 0) (views : List ViewNo) → All (λ (v : ViewNo). P v.0) views → All P (numbers views)
+pub numbered : (P : ℕ → Type 0) (views : List ViewNo) → All (λ (v : ViewNo). P v.0) views → All P (numbers views)
 numbered P [] all = λ i d lt. absurd (omega (arith, lt))
 numbered P (v ∷ vs) all = all_cons P v.0 (numbers vs) (all 0 v (omega arith)) (numbered P vs (λ i d lt. all (suc i) d (omega (arith, lt))))
 
@@ -205,11 +231,29 @@ grown_run answer g run m rules order e has =
         split = is.split;
       };
       finished = has.finished;
+      unphased = has.unphased;
     }
 
-module _ (answer : Answer) (g : GraphData) (p : Plan) (n place : ℕ) (made : List MatrixData) (m after : MatrixData) (rules : List ViewRule) (m_at : slice_get made place ≡ Some m) (grown : after ≡ with_views m g rules) where
-  moved : (k : Kept) → (is : IsKept answer g p n made k) → (x : MatrixData) → slice_get (set made place after) is.run.collection ≡ Some x → HasRun answer g is.run x (order_at g p is.run k.place n) k.engine → IsKept answer g p n (set made place after) k
-  moved k is x at has = record { run = is.run; at = is.at; earlier = is.earlier; matrix = x; shown = at; has = has; below = is.below; count = is.count }
+grown_followed : StandsWithMore → (answer : Answer) (g : GraphData) (run : RunPlan) (m : MatrixData) (rules : List ViewRule) (order : List ℕ) (e : VersionEngine) → HasFollowed answer g run m order e → HasFollowed answer g run (with_views m g rules) order e
+grown_followed law answer g run m rules order e has = record {
+  engine = has.engine;
+  fresh = has.fresh;
+  stands = law answer m e g rules has.stands;
+  order = has.order;
+  graph = has.graph;
+  program = has.program;
+  rounds = has.rounds;
+  unphased = has.unphased;
+}
+
+grown_in : StandsWithMore → (answer : Answer) (g : GraphData) (run : RunPlan) (m : MatrixData) (rules : List ViewRule) (engine : RunEngine) → run.phases ≡ None → HasRunIn answer g run m engine → HasRunIn answer g run (with_views m g rules) engine
+grown_in law answer g run m rules (run_engine.Plain e) unphased has = (has.0, grown_run answer g run m rules (numbers e.order) e has.1)
+grown_in law answer g run m rules (run_engine.Versions e) unphased has = (has.0, grown_followed law answer g run m rules (numbers e.order) e has.1)
+grown_in law answer g run m rules (run_engine.Phased results) unphased has = absurd (let e : None ≡ Some has.0 = sym unphased ∙ has.1.phases in cc)
+
+module _ (law : StandsWithMore) (answer : Answer) (g : GraphData) (p : Plan) (n place : ℕ) (made : List MatrixData) (m after : MatrixData) (rules : List ViewRule) (m_at : slice_get made place ≡ Some m) (grown : after ≡ with_views m g rules) where
+  moved : (k : Kept) → (is : IsKept answer g p n made k) → (x : MatrixData) → slice_get (set made place after) is.run.collection ≡ Some x → HasRunIn answer g is.run x k.engine → IsKept answer g p n (set made place after) k
+  moved k is x at has = record { run = is.run; at = is.at; named = is.named; earlier = is.earlier; unphased = is.unphased; matrix = x; shown = at; has = has; order = is.order; below = is.below; count = is.count }
 
   kept_grown : (k : Kept) (is : IsKept answer g p n made k) → ((place == is.run.collection) ≡ true) × (place ≡ is.run.collection) ⊎ ((place == is.run.collection) ≡ false) × (place ≢ is.run.collection) → IsKept answer g p n (set made place after) k
   kept_grown k is (inl h) =
@@ -217,8 +261,8 @@ module _ (answer : Answer) (g : GraphData) (p : Plan) (n place : ℕ) (made : Li
       let its : is.matrix ≡ m = (let e : Some is.matrix ≡ Some m = sym is.shown ∙ ap (slice_get made) (sym h.1) ∙ m_at in cc) in
       let at : slice_get (set made place after) is.run.collection ≡ Some after =
       ap (slice_get (set made place after)) (sym h.1) ∙ found (set made place after) (set made place after) place after refl (omega (arith, within, length-set made place after)) (sym (get_or-set_same made place after after within)) in
-      let has : HasRun answer g is.run m (order_at g p is.run k.place n) k.engine = subst (λ (x : MatrixData). HasRun answer g is.run x (order_at g p is.run k.place n) k.engine) its is.has in
-      moved k is after at (subst (λ (x : MatrixData). HasRun answer g is.run x (order_at g p is.run k.place n) k.engine) (sym grown) (grown_run answer g is.run m rules (order_at g p is.run k.place n) k.engine has))
+      let has : HasRunIn answer g is.run m k.engine = subst (λ (x : MatrixData). HasRunIn answer g is.run x k.engine) its is.has in
+      moved k is after at (subst (λ (x : MatrixData). HasRunIn answer g is.run x k.engine) (sym grown) (grown_in law answer g is.run m rules k.engine is.unphased has))
   kept_grown k is (inr h) =
       let c = is.run.collection in
       let within : c < length made = slice_get_within made c is.matrix is.shown in
@@ -261,6 +305,10 @@ module _ (g : GraphData) (p : Plan) (fits : PlanFits g p) (place : ℕ) (run : R
   by_step n (step.Append other first count) f lt so_far all = so_far (omega (arith, lt)) (all_left (λ (k : ℕ). k ≢ place) (kept_at p n) [] all)
   by_step n (step.ShowOrder other) f lt so_far all = so_far (omega (arith, lt)) (all_left (λ (k : ℕ). k ≢ place) (kept_at p n) [] all)
   by_step n (step.ShowWork other) f lt so_far all = so_far (omega (arith, lt)) (all_left (λ (k : ℕ). k ≢ place) (kept_at p n) [] all)
+  by_step n (step.ShowTree other) f lt so_far all = so_far (omega (arith, lt)) (all_left (λ (k : ℕ). k ≢ place) (kept_at p n) [] all)
+  by_step n (step.Insert first count) f lt so_far all = so_far (omega (arith, lt)) (all_left (λ (k : ℕ). k ≢ place) (kept_at p n) [] all)
+  by_step n (step.Remove rule) f lt so_far all = so_far (omega (arith, lt)) (all_left (λ (k : ℕ). k ≢ place) (kept_at p n) [] all)
+  by_step n (step.Aggregate other by sum) f lt so_far all = so_far (omega (arith, lt)) (all_left (λ (k : ℕ). k ≢ place) (kept_at p n) [] all)
 
   -- a run with a name that was made before a statement is kept
   pub is_kept : (n : ℕ) → n ≤ length p.steps → place < runs_at p n → All (λ (k : ℕ). k ≢ place) (kept_at p n) → ⊥

@@ -9,8 +9,6 @@ use Rattle.std.proofs.lemmas.List.Sums.{sum_by-append}
 use Rattle.std.proofs.lemmas.Grind.{flat_map-append}
 use Rattle.graph_model.specs.declared.number.EdgeNo.{EdgeNo}
 use Rattle.graph_model.specs.declared.number.ViewNo.{ViewNo}
-use Rattle.graph_model.specs.GraphData.{GraphData}
-use Rattle.edge_predicates.specs.ViewEdges.{view_edges}
 use Rattle.gvdl_check.specs.declared.plan.ViewPlan.{ViewPlan}
 use Rattle.view_matrix.specs.Matrices.{MatrixData, bit_of, live_of, all_edges, column_edges, edges_in, distance_of, in_exactly_one, place_of}
 use Rattle.view_matrix.specs.Laws.{distance_of-lists}
@@ -19,6 +17,7 @@ use Rattle.view_order.specs.Places.{view}
 use Rattle.result_tables.specs.TableText.{line_end}
 use Rattle.surge_session.specs.Output.{list_of, edges_at, difference, with_distances, order_line}
 use Rattle.surge_session.specs.State.{Shows}
+use Rattle.surge_session.specs.Live.{LiveGraph, live_edges}
 
 -- ---- the edges of a view by its place
 
@@ -35,28 +34,28 @@ past [] i e = omega arith
 past (x ∷ xs) zero e = absurd cc
 past (x ∷ xs) (suc i) e = omega (arith, past xs i e)
 
-module _ (g : GraphData) (m : MatrixData) (views : List ViewPlan) (shows : Shows g m 0 views) (all : length m.columns ≡ length views) where
+module _ (w : LiveGraph) (m : MatrixData) (views : List ViewPlan) (shows : Shows w m 0 views) (all : length m.columns ≡ length views) where
   no_bit : (v : ℕ) → length m.columns ≤ v → (e : EdgeNo) → bit_of m e.0 v ≡ false
   no_bit v le e = ap (λ (column : List Bool). live_of m e.0 && get_or column e.0 false) (get_or_past m.columns v [] le) ∙ and_false (live_of m e.0)
 
-  edges_of_view : (v : ℕ) (view : Option ViewPlan) → slice_get views v ≡ view → edges_in m v ≡ list_of (λ (x : ViewPlan). view_edges g x.rule) view
+  edges_of_view : (v : ℕ) (view : Option ViewPlan) → slice_get views v ≡ view → edges_in m v ≡ list_of (λ (x : ViewPlan). live_edges w x.rule) view
   edges_of_view v None at = none_kept (λ (e : EdgeNo). bit_of m e.0 v) (all_edges m) (no_bit v (omega (arith, all, past views v at)))
   edges_of_view v (Some view) at = ap (edges_in m) (let e : v ≡ 0 + v = omega arith in e) ∙ (shows v view at).1
 
-  pub edges_here : (v : ℕ) → edges_in m v ≡ edges_at g views (Some v)
+  pub edges_here : (v : ℕ) → edges_in m v ≡ edges_at w views (Some v)
   edges_here v = edges_of_view v (slice_get views v) refl
 
-  column_here : (before : Option ℕ) → column_edges m before ≡ edges_at g views before
+  column_here : (before : Option ℕ) → column_edges m before ≡ edges_at w views before
   column_here None = none_kept (λ (e : EdgeNo). false) (all_edges m) (λ e. refl)
   column_here (Some v) = edges_here v
 
-  pub same_distance : (before : Option ℕ) (v : ℕ) → distance_of m before v ≡ difference g views before v
+  pub same_distance : (before : Option ℕ) (v : ℕ) → distance_of m before v ≡ difference w views before v
   same_distance before v = distance_of-lists m before v ∙ ap₂ in_exactly_one (column_here before) (edges_here v)
 
-  pub same_distances : distance_of m ≡ difference g views
+  pub same_distances : distance_of m ≡ difference w views
   same_distances = fun_ext (λ before. fun_ext (λ v. same_distance before v))
 
-  pub same_greedy : (ns : List ℕ) → greedy (distance_of m) None ns ≡ greedy (difference g views) None ns
+  pub same_greedy : (ns : List ℕ) → greedy (distance_of m) None ns ≡ greedy (difference w views) None ns
   same_greedy ns = ap (λ (distance : Option ℕ → ℕ → ℕ). greedy distance None ns) same_distances
 
 -- ---- the views in declared order

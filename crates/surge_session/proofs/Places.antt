@@ -1,11 +1,10 @@
 -- What there is before a statement, and before the next one.
-use Rattle.std.proofs.Common.{◌≡◌, ◌≢◌, ◌∙◌, ◌+◌, ◌-◌, ◌<◌, ◌≤◌, ℕ, List, [], ◌∷◌, ◌++◌, length, take, drop, get_or, min, Option, Some, None, slice_get, slice_range, refl, sym, ap, subst, arith, append-nil, flat_map, Bool, true, false, inl, inr, is_some, All, replicate}
+use Rattle.std.proofs.Common.{◌≡◌, ◌≢◌, ◌∙◌, ◌+◌, ◌-◌, ◌<◌, ◌≤◌, ℕ, List, [], ◌∷◌, ◌++◌, length, take, drop, get_or, min, Option, Some, None, slice_get, slice_range, refl, sym, ap, subst, arith, append-nil, flat_map, Bool, true, false, inl, inr, is_some, All}
 use Rattle.std.specs.Prelude.{sum_by, ◌==◌, ◌⊎◌, if◌then◌else◌}
 use Rattle.std.proofs.Math.ListN.{set, length-set}
 use Rattle.std.proofs.Math.Seq.{take-add}
 use Rattle.std.proofs.lemmas.Bool.Decides.{eqb_tells, nat_tests}
-use Rattle.std.proofs.lemmas.List.{length-take, take_min, drop_min, drop-take, get_or-set_same, get_or-set_other, length-replicate, map-append}
-use Rattle.std.proofs.lemmas.List.Elements.{All-replicate}
+use Rattle.std.proofs.lemmas.List.{length-take, take_min, drop_min, drop-take, get_or-set_same, get_or-set_other, map-append}
 use Rattle.std.proofs.lemmas.List.Sums.{sum_by-append}
 use Rattle.std.proofs.lemmas.Grind.{flat_map-append}
 use Rattle.std.proofs.lemmas.Option.{slice_get_within, slice_get_past, get_or_from_slice_get}
@@ -19,11 +18,12 @@ use Rattle.gvdl_check.specs.declared.plan.Step.TheVariants as step
 use Rattle.gvdl_check.specs.declared.plan.Plan.{Plan}
 use Rattle.gvdl_check.specs.Steps.{gives, runs, views_at, runs_at}
 use Rattle.view_matrix.specs.Matrices.{MatrixData, matrix_of, rule_column, rule_columns, with_views}
-use Rattle.view_matrix.specs.Laws.{ShowsViews}
 use Rattle.surge_session.specs.Output.{list_of, views_before, views_added, made_at, keeps, kept_as, kept_at}
-use Rattle.surge_session.specs.State.{rules_of, Shows, MatricesAt}
+use Rattle.surge_session.specs.Live.{LiveGraph, live_loaded, live_at, graph_at}
+use Rattle.surge_session.specs.State.{rules_of, ShowsLive, Shows, MatricesAt, shown_graph}
 use Rattle.surge_session.proofs.Growing.{one_more}
 use Rattle.surge_session.proofs.Texts.{found}
+use Rattle.surge_session.proofs.LiveFacts.{live_count, live_first}
 use Rattle.surge_session.proofs.ViewEdges.{as_many, shown_from}
 
 -- ---- one more statement
@@ -106,10 +106,11 @@ module _ (p : Plan) (n place : ℕ) (c : CollectionPlan) (at : slice_get p.colle
 
 -- ---- the state behind a statement that gives no views
 
-pub matrices_passed : (g : GraphData) (p : Plan) (n : ℕ) (made : List MatrixData) → ((place : ℕ) → views_at p (n + 1) place ≡ views_at p n place) → MatricesAt g p n made → MatricesAt g p (n + 1) made
-matrices_passed g p n made views is = record {
+pub matrices_passed : (g : GraphData) (p : Plan) (n : ℕ) (made : List MatrixData) → ((place : ℕ) → views_at p (n + 1) place ≡ views_at p n place) → graph_at g p (n + 1) ≡ graph_at g p n → MatricesAt g p n made → MatricesAt g p (n + 1) made
+matrices_passed g p n made views same is = record {
   all = is.all;
-  shows = λ place m at. subst (λ (vs : List ViewPlan). ShowsViews g (rules_of vs) m) (sym (made_same p n place (views place))) (is.shows place m at);
+  shows = λ place m at. subst (λ (w : LiveGraph). ShowsLive w (rules_of (made_at p (n + 1) place)) m) (sym same)
+      (subst (λ (vs : List ViewPlan). ShowsLive (graph_at g p n) (rules_of vs) m) (sym (made_same p n place (views place))) (is.shows place m at));
 }
 
 -- the run at this place is kept, if it has a name
@@ -151,40 +152,41 @@ more_of views before after count e =
     ∙ sym (take-add there (end - there) views) ∙ ap (λ (k : ℕ). take k views) (whole ∙ clipped) ∙ take_min after views
 
 -- a matrix with more views shows them behind its own
-shows_more : (g : GraphData) (before added after : List ViewPlan) (m : MatrixData) → ShowsViews g (rules_of before) m → before ++ added ≡ after → ShowsViews g (rules_of after) (with_views m g (rules_of added))
-shows_more g before added after m shows e = record {
-  count = shows.count;
+shows_more : (w : LiveGraph) (before added after : List ViewPlan) (m : MatrixData) → ShowsLive w (rules_of before) m → before ++ added ≡ after → ShowsLive w (rules_of after) (with_views m w.graph (rules_of added))
+shows_more w before added after m shows e = record {
   live = shows.live;
   columns =
-      ap (λ (cs : List _). cs ++ rule_columns g (rules_of added)) shows.columns
-      ∙ sym (map-append (rule_column g) (rules_of before) (rules_of added))
-      ∙ ap (λ (rules : List ViewRule). rule_columns g rules) (sym (map-append (λ (view : ViewPlan). view.rule) before added) ∙ ap rules_of e);
+      ap (λ (cs : List _). cs ++ rule_columns w.graph (rules_of added)) shows.columns
+      ∙ sym (map-append (rule_column w.graph) (rules_of before) (rules_of added))
+      ∙ ap (λ (rules : List ViewRule). rule_columns w.graph rules) (sym (map-append (λ (view : ViewPlan). view.rule) before added) ∙ ap rules_of e);
 }
 
 module _ (g : GraphData) (p : Plan) (n place count : ℕ) (c : CollectionPlan) (made : List MatrixData)
     (views : (other : ℕ) → views_at p (n + 1) other ≡ views_at p n other + (if place == other then count else 0))
-    (at : slice_get p.collections place ≡ Some c) (is : MatricesAt g p n made)
+    (same : graph_at g p (n + 1) ≡ graph_at g p n) (at : slice_get p.collections place ≡ Some c) (is : MatricesAt g p n made)
     (m : MatrixData) (m_at : slice_get made place ≡ Some m) where
-  shown_here : ShowsViews g (rules_of (made_at p (n + 1) place)) (with_views m g (rules_of (slice_range c.views (length m.columns) (min (length c.views) (length m.columns + count)))))
+  shown_here : ShowsLive (graph_at g p (n + 1)) (rules_of (made_at p (n + 1) place)) (with_views m g (rules_of (slice_range c.views (length m.columns) (min (length c.views) (length m.columns + count)))))
   shown_here =
       let before = views_before p n c place in
-      let shows : ShowsViews g (rules_of before) m = subst (λ (vs : List ViewPlan). ShowsViews g (rules_of vs) m) (made_with p n place (Some c) at) (is.shows place m m_at) in
-      let many : length m.columns ≡ length before = as_many g before m shows in
+      let shows : ShowsLive (graph_at g p n) (rules_of before) m = subst (λ (vs : List ViewPlan). ShowsLive (graph_at g p n) (rules_of vs) m) (made_with p n place (Some c) at) (is.shows place m m_at) in
+      let many : length m.columns ≡ length before = as_many (graph_at g p n) before m shows in
       let grows : views_at p (n + 1) place ≡ views_at p n place + count = views place ∙ ap (λ (k : ℕ). views_at p n place + k) (its_views place count) in
       let e : before ++ slice_range c.views (length m.columns) (min (length c.views) (length m.columns + count)) ≡ made_at p (n + 1) place =
       ap (λ (k : ℕ). before ++ slice_range c.views k (min (length c.views) (k + count))) many ∙ more_of c.views (views_at p n place) (views_at p (n + 1) place) count grows ∙ sym (made_with p (n + 1) place (Some c) at) in
-      shows_more g before (slice_range c.views (length m.columns) (min (length c.views) (length m.columns + count))) (made_at p (n + 1) place) m shows e
+      let now : ShowsLive (graph_at g p (n + 1)) (rules_of before) m = subst (λ (w : LiveGraph). ShowsLive w (rules_of before) m) (sym same) shows in
+      shows_more (graph_at g p (n + 1)) before (slice_range c.views (length m.columns) (min (length c.views) (length m.columns + count))) (made_at p (n + 1) place) m now e
 
-  shown_elsewhere : (other : ℕ) (x : MatrixData) → place ≢ other → slice_get made other ≡ Some x → ShowsViews g (rules_of (made_at p (n + 1) other)) x
+  shown_elsewhere : (other : ℕ) (x : MatrixData) → place ≢ other → slice_get made other ≡ Some x → ShowsLive (graph_at g p (n + 1)) (rules_of (made_at p (n + 1) other)) x
   shown_elsewhere other x ne h =
-      subst (λ (vs : List ViewPlan). ShowsViews g (rules_of vs) x) (sym (made_same p n other (omega (arith, views other, other_views place other count ne)))) (is.shows other x h)
+      subst (λ (w : LiveGraph). ShowsLive w (rules_of (made_at p (n + 1) other)) x) (sym same)
+      (subst (λ (vs : List ViewPlan). ShowsLive (graph_at g p n) (rules_of vs) x) (sym (made_same p n other (omega (arith, views other, other_views place other count ne)))) (is.shows other x h))
 
   module _ (after : MatrixData) (grown : after ≡ with_views m g (rules_of (slice_range c.views (length m.columns) (min (length c.views) (length m.columns + count))))) where
-    shown_at : (other : ℕ) (x : MatrixData) → ((place == other) ≡ true) × (place ≡ other) ⊎ ((place == other) ≡ false) × (place ≢ other) → slice_get (set made place after) other ≡ Some x → ShowsViews g (rules_of (made_at p (n + 1) other)) x
+    shown_at : (other : ℕ) (x : MatrixData) → ((place == other) ≡ true) × (place ≡ other) ⊎ ((place == other) ≡ false) × (place ≢ other) → slice_get (set made place after) other ≡ Some x → ShowsLive (graph_at g p (n + 1)) (rules_of (made_at p (n + 1) other)) x
     shown_at other x (inl h) e =
         let within : place < length made = slice_get_within made place m m_at in
         let got : x ≡ after = sym (get_or_from_slice_get (set made place after) place x x (ap (slice_get (set made place after)) h.1 ∙ e)) ∙ get_or-set_same made place after x within in
-        subst (λ (k : ℕ). ShowsViews g (rules_of (made_at p (n + 1) k)) x) h.1 (subst (λ (y : MatrixData). ShowsViews g (rules_of (made_at p (n + 1) place)) y) (sym (got ∙ grown)) shown_here)
+        subst (λ (k : ℕ). ShowsLive (graph_at g p (n + 1)) (rules_of (made_at p (n + 1) k)) x) h.1 (subst (λ (y : MatrixData). ShowsLive (graph_at g p (n + 1)) (rules_of (made_at p (n + 1) place)) y) (sym (got ∙ grown)) shown_here)
     shown_at other x (inr h) e =
         let within : other < length made = omega (arith, slice_get_within (set made place after) other x e, length-set made place after) in
         let got : x ≡ get_or made other x = sym (get_or_from_slice_get (set made place after) other x x e) ∙ get_or-set_other made place other after x (λ (y : other ≡ place). h.1 (sym y)) in
@@ -197,13 +199,14 @@ module _ (g : GraphData) (p : Plan) (n place count : ℕ) (c : CollectionPlan) (
     }
 
 pub grown_nothing : (g : GraphData) (p : Plan) (n place count : ℕ) (made : List MatrixData) → ((other : ℕ) → views_at p (n + 1) other ≡ views_at p n other + (if place == other then count else 0))
-    → length p.collections ≤ place → MatricesAt g p n made → MatricesAt g p (n + 1) made
-grown_nothing g p n place count made views le is = record {
+    → graph_at g p (n + 1) ≡ graph_at g p n → length p.collections ≤ place → MatricesAt g p n made → MatricesAt g p (n + 1) made
+grown_nothing g p n place count made views same le is = record {
   all = is.all;
   shows = λ other m h.
       let lt : other < length made = slice_get_within made other m h in
-      subst (λ (vs : List ViewPlan). ShowsViews g (rules_of vs) m)
-      (sym (made_same p n other (omega (arith, views other, other_views place other count (λ (e : place ≡ other). absurd (omega (arith, e, le, lt, is.all))))))) (is.shows other m h);
+      subst (λ (vs : List ViewPlan). ShowsLive (graph_at g p (n + 1)) (rules_of vs) m)
+      (sym (made_same p n other (omega (arith, views other, other_views place other count (λ (e : place ≡ other). absurd (omega (arith, e, le, lt, is.all)))))))
+      (subst (λ (w : LiveGraph). ShowsLive w (rules_of (made_at p n other)) m) (sym same) (is.shows other m h));
 }
 
 -- the rules of so many views behind those of the matrix, as far as there are
@@ -213,28 +216,36 @@ views_to_add views m count = rules_of (slice_range views (length m.columns) (min
 -- ---- how many views the state shows
 
 pub counted : (g : GraphData) (p : Plan) (n place : ℕ) (made : List MatrixData) (m : MatrixData) → MatricesAt g p n made → slice_get made place ≡ Some m → length m.columns ≡ length (made_at p n place)
-counted g p n place made m is at = as_many g (made_at p n place) m (is.shows place m at)
+counted g p n place made m is at = as_many (graph_at g p n) (made_at p n place) m (is.shows place m at)
+
+-- it says of each edge of the graph whether it is live
+pub live_size : (g : GraphData) (p : Plan) (n place : ℕ) (made : List MatrixData) (m : MatrixData) → MatricesAt g p n made → slice_get made place ≡ Some m → length m.live ≡ length g.ends
+live_size g p n place made m is at = ap (λ (live : List Bool). length live) (is.shows place m at).live ∙ live_count g p n
 
 module _ (g : GraphData) (p : Plan) (n place : ℕ) (c : CollectionPlan) (made : List MatrixData) (m : MatrixData)
     (at : slice_get p.collections place ≡ Some c) (is : MatricesAt g p n made) (m_at : slice_get made place ≡ Some m) where
-  shows_all : ShowsViews g (rules_of (views_before p n c place)) m
-  shows_all = subst (λ (vs : List ViewPlan). ShowsViews g (rules_of vs) m) (made_with p n place (Some c) at) (is.shows place m m_at)
+  shows_all : ShowsLive (graph_at g p n) (rules_of (views_before p n c place)) m
+  shows_all = subst (λ (vs : List ViewPlan). ShowsLive (graph_at g p n) (rules_of vs) m) (made_with p n place (Some c) at) (is.shows place m m_at)
 
   -- the first views of the collection, as many as its matrix has
   pub seen : slice_range c.views 0 (length m.columns) ≡ views_before p n c place
   seen = ap (λ (k : ℕ). slice_range c.views 0 k) (counted g p n place made m is m_at) ∙ first_range p n place c at
 
-  pub shown_all : (views : List ViewPlan) → views ≡ views_before p n c place → Shows g m 0 views
-  shown_all views e = subst (λ (vs : List ViewPlan). Shows g m 0 vs) (sym e) (shown_from g (views_before p n c place) m 0 shows_all)
+  pub shown_all : (views : List ViewPlan) → views ≡ views_before p n c place → Shows (graph_at g p n) m 0 views
+  shown_all views e = subst (λ (vs : List ViewPlan). Shows (graph_at g p n) m 0 vs) (sym e) (shown_from (graph_at g p n) (views_before p n c place) m 0 (live_count g p n) shows_all)
 
   pub all_columns : (views : List ViewPlan) → views ≡ views_before p n c place → length m.columns ≡ length views
-  all_columns views e = as_many g (views_before p n c place) m shows_all ∙ ap (λ (vs : List ViewPlan). length vs) (sym e)
+  all_columns views e = as_many (graph_at g p n) (views_before p n c place) m shows_all ∙ ap (λ (vs : List ViewPlan). length vs) (sym e)
 
   taken_is : take (length m.columns) c.views ≡ made_at p n place
   taken_is = ap (λ (k : ℕ). take k c.views) (counted g p n place made m is m_at) ∙ first_of p n place c at ∙ sym (made_with p n place (Some c) at)
 
-  pub shows_taken : ShowsViews g (rules_of (take (length m.columns) c.views)) m
-  shows_taken = subst (λ (vs : List ViewPlan). ShowsViews g (rules_of vs) m) (sym taken_is) (is.shows place m m_at)
+  pub shows_taken : ShowsLive (graph_at g p n) (rules_of (take (length m.columns) c.views)) m
+  shows_taken = subst (λ (vs : List ViewPlan). ShowsLive (graph_at g p n) (rules_of vs) m) (sym taken_is) (is.shows place m m_at)
+
+  -- over the edges that are live in it
+  pub shows_front : ShowsLive (shown_graph g m) (rules_of (take (length m.columns) c.views)) m
+  shows_front = record { live = refl; columns = shows_taken.columns }
 
   pub columns_within : length m.columns ≤ length c.views
   columns_within = omega (arith, counted g p n place made m is m_at, count_within p n place c at)
@@ -247,17 +258,13 @@ nothing_made p place = none (slice_get p.collections place) where
   none None = refl
   none (Some c) = refl
 
-empty_shows : (g : GraphData) (m : MatrixData) → m ≡ matrix_of g (replicate (length g.ends) true) [] → ShowsViews g [] m
-empty_shows g m e = subst (λ (x : MatrixData). ShowsViews g [] x) (sym e) (record {
-  count = length-replicate (length g.ends) true;
-  live = All-replicate (λ (b : Bool). b ≡ true) (length g.ends) true refl;
-  columns = refl;
-})
+empty_shows : (g : GraphData) (p : Plan) (m : MatrixData) → m ≡ matrix_of g (live_loaded g p) [] → ShowsLive (graph_at g p 0) [] m
+empty_shows g p m e = record { live = ap (λ (x : MatrixData). x.live) e ∙ sym (live_first g p); columns = ap (λ (x : MatrixData). x.columns) e }
 
-pub started_at : (g : GraphData) (p : Plan) (made : List MatrixData) → length made ≡ length p.collections → All (λ (m : MatrixData). m ≡ matrix_of g (replicate (length g.ends) true) []) made → MatricesAt g p 0 made
+pub started_at : (g : GraphData) (p : Plan) (made : List MatrixData) → length made ≡ length p.collections → All (λ (m : MatrixData). m ≡ matrix_of g (live_loaded g p) []) made → MatricesAt g p 0 made
 started_at g p made all empty = record {
   all = all;
   shows = λ place m at.
-      let is : m ≡ matrix_of g (replicate (length g.ends) true) [] = sym (get_or_from_slice_get made place m m at) ∙ empty place m (slice_get_within made place m at) in
-      subst (λ (vs : List ViewPlan). ShowsViews g (rules_of vs) m) (sym (nothing_made p place)) (empty_shows g m is);
+      let is : m ≡ matrix_of g (live_loaded g p) [] = sym (get_or_from_slice_get made place m m at) ∙ empty place m (slice_get_within made place m at) in
+      subst (λ (vs : List ViewPlan). ShowsLive (graph_at g p 0) (rules_of vs) m) (sym (nothing_made p place)) (empty_shows g p m is);
 }

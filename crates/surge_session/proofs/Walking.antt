@@ -10,7 +10,8 @@ use Rattle.graph_model.specs.GraphData.{GraphData}
 use Rattle.vertex_lang.specs.Expressions.{Answer}
 use Rattle.gvdl_check.specs.declared.plan.Plan.{Plan}
 use Rattle.result_tables.specs.declared.form.Form.{Form}
-use Rattle.surge_session.specs.Output.{step_text, texts, plan_text, step_work, works}
+use Rattle.surge_session.specs.Output.{step_text, texts, plan_text}
+use Rattle.surge_session.specs.Works.{step_work, works}
 use Rattle.surge_session.specs.Sessions.{SessionData}
 use Rattle.surge_session.proofs.Texts.{range-add, one_step_more}
 use Rattle.surge_session.proofs.Written.{appended-append, front_of_all}

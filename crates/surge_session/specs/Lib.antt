@@ -1,4 +1,10 @@
+pub mod Live
+pub mod Aggregates
 pub mod Output
+pub mod Grouping
+pub mod Works
+pub mod Changes
+pub mod RunWorks
 pub mod State
 pub mod WorkLines
 pub mod Sessions

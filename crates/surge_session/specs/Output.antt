@@ -1,16 +1,17 @@
 -- What the statements of a plan print.
-use Rattle.std.specs.Prelude.{ℕ, zero, suc, ◌+◌, ◌-◌, ◌≤◌, ◌==◌, ◌&&◌, nat_lt, if◌then◌else◌, List, [], ◌∷◌, ◌++◌, length, flat_map, take, drop, sum_by, slice_get, codes, Option, Some, None}
+use Rattle.std.specs.Prelude.{IfSome, ℕ, zero, suc, ◌+◌, ◌-◌, ◌≤◌, ◌==◌, ◌&&◌, nat_lt, if◌then◌else◌, List, [], ◌∷◌, ◌++◌, length, flat_map, take, drop, sum_by, slice_get, codes, Option, Some, None}
 use Rattle.std.specs.List.{range_with_len, last_or}
 use Rattle.std.specs.Fmt.{decimal}
 use Rattle.graph_model.specs.declared.number.EdgeNo.{EdgeNo}
 use Rattle.graph_model.specs.GraphData.{GraphData}
 use Rattle.edge_predicates.specs.declared.pred.ViewRule.{ViewRule}
-use Rattle.edge_predicates.specs.ViewEdges.{view_edges}
+use Rattle.vertex_lang.specs.declared.arc.Arc.{Arc}
 use Rattle.vertex_lang.specs.declared.lone.Lone.{Lone}
 use Rattle.vertex_lang.specs.Leaves.{IsChecked}
 use Rattle.vertex_lang.specs.Expressions.{Answer}
 use Rattle.vertex_lang.specs.Arcs.{arcs_between}
 use Rattle.vertex_lang.specs.Lone.{number_of, answer_of}
+use Rattle.vertex_lang.specs.Phases.{phases_answer}
 use Rattle.segment_split.specs.Rule.{HasNumber}
 use Rattle.gvdl_check.specs.declared.plan.OrderRule.{OrderRule}
 use Rattle.gvdl_check.specs.declared.plan.OrderRule.TheVariants as order
@@ -24,10 +25,13 @@ use Rattle.gvdl_check.specs.Steps.{views_at, runs_at}
 use Rattle.gvdl_printer.specs.Canonical.{canonical_call}
 use Rattle.view_matrix.specs.Matrices.{in_exactly_one}
 use Rattle.view_order.specs.Greedy.{greedy}
+use Rattle.tree_order.specs.Trees.{Branch, tree, tree_walk, views_of, walked, weight}
 use Rattle.result_tables.specs.declared.form.Form.{Form}
 use Rattle.result_tables.specs.TableText.{table_of, head_text, line_end, form_text}
 use Rattle.view_segment.specs.Tasks.{Task, works_of}
-use Rattle.view_engine.specs.Splits.{segments_of, all_works}
+use Rattle.view_engine.specs.Splits.{segments_of}
+use Rattle.surge_session.specs.Live.{LiveGraph, graph_at, live_edges}
+use Rattle.surge_session.specs.Aggregates.{aggregate_text}
 
 -- a list for what is there, and nothing where nothing is
 abbrev pub list_of : {A B : Type 0} → (A → List B) → Option A → List B
@@ -36,29 +40,38 @@ list_of f (Some a) = f a
 
 -- ---- a view
 
--- the answer of the run's program alone on the view
-abbrev pub view_answer : Answer → GraphData → RunPlan → ViewRule → Lone
-view_answer answer g run rule = answer_of answer run.program g (arcs_between run.program.along g (view_edges g rule)) run.rounds
+-- the arcs of a view
+abbrev pub view_arcs : LiveGraph → RunPlan → ViewRule → List Arc
+view_arcs w run rule = arcs_between run.program.along w.graph (live_edges w rule)
+
+-- the answer of the run's program alone on these arcs, in phases where there are some
+abbrev pub answer_over : Answer → GraphData → RunPlan → List Arc → Option ℕ → Lone
+answer_over answer g run arcs None = answer_of answer run.program g arcs run.rounds
+answer_over answer g run arcs (Some phases) = phases_answer answer run.program g arcs (number_of run.rounds) phases
+
+-- and on the view
+abbrev pub view_answer : Answer → LiveGraph → RunPlan → ViewRule → Lone
+view_answer answer w run rule = answer_over answer w.graph run (view_arcs w run rule) run.phases
 
 -- the text of the view's table in a form, in the collection of this name
-abbrev pub view_text : Answer → Form → GraphData → RunPlan → List ℕ → ViewPlan → List ℕ
-view_text answer form g run collection view =
-    form_text form (head_text collection view.name (canonical_call run.call)) (length (view_edges g view.rule)) g (table_of (view_answer answer g run view.rule))
+abbrev pub view_text : Answer → Form → LiveGraph → RunPlan → List ℕ → ViewPlan → List ℕ
+view_text answer form w run collection view =
+    form_text form (head_text collection view.name (canonical_call run.call)) (length (live_edges w view.rule)) w.graph (table_of (view_answer answer w run view.rule))
 
 -- the tables of these views, in their order
-abbrev pub tables_text : Answer → Form → GraphData → RunPlan → List ℕ → List ViewPlan → List ℕ
-tables_text answer form g run collection views = flat_map (view_text answer form g run collection) views
+abbrev pub tables_text : Answer → Form → LiveGraph → RunPlan → List ℕ → List ViewPlan → List ℕ
+tables_text answer form w run collection views = flat_map (view_text answer form w run collection) views
 
 -- ---- an order
 
 -- the edges of the view at this place, and none where there is none
-abbrev pub edges_at : GraphData → List ViewPlan → Option ℕ → List EdgeNo
-edges_at g views None = []
-edges_at g views (Some v) = list_of (λ view. view_edges g view.rule) (slice_get views v)
+abbrev pub edges_at : LiveGraph → List ViewPlan → Option ℕ → List EdgeNo
+edges_at w views None = []
+edges_at w views (Some v) = list_of (λ view. live_edges w view.rule) (slice_get views v)
 
 -- how many edges stand in exactly one of two views, or in the view where there is none before it
-abbrev pub difference : GraphData → List ViewPlan → Option ℕ → ℕ → ℕ
-difference g views before v = in_exactly_one (edges_at g views before) (edges_at g views (Some v))
+abbrev pub difference : LiveGraph → List ViewPlan → Option ℕ → ℕ → ℕ
+difference w views before v = in_exactly_one (edges_at w views before) (edges_at w views (Some v))
 
 -- each view of an order, with its distance from the one before
 abbrev pub with_distances : (Option ℕ → ℕ → ℕ) → Option ℕ → List ℕ → List (ℕ × ℕ)
@@ -66,8 +79,8 @@ with_distances distance before [] = []
 with_distances distance before (v ∷ vs) = (v, distance before v) ∷ with_distances distance (Some v) vs
 
 -- the views in greedy order, each with its distance from the one before
-abbrev pub ordered : GraphData → List ViewPlan → List (ℕ × ℕ)
-ordered g views = let distance = difference g views in with_distances distance None (greedy distance None (range_with_len 0 (length views)))
+abbrev pub ordered : LiveGraph → List ViewPlan → List (ℕ × ℕ)
+ordered w views = let distance = difference w views in with_distances distance None (greedy distance None (range_with_len 0 (length views)))
 
 -- the name of the view at this place
 abbrev pub name_at : List ViewPlan → ℕ → List ℕ
@@ -77,9 +90,28 @@ abbrev pub order_line : List ViewPlan → ℕ × ℕ → List ℕ
 order_line views line = name_at views line.0 ++ (codes " " ++ (decimal line.1 ++ line_end))
 
 -- the sum of the distances, a line for each view, and `end`
-abbrev pub order_text : GraphData → List ℕ → List ViewPlan → List ℕ
-order_text g collection views =
-    let lines = ordered g views in codes "order " ++ (collection ++ (codes " " ++ (decimal (sum_by (λ line. line.1) lines) ++ (line_end ++ (flat_map (order_line views) lines ++ (codes "end" ++ line_end))))))
+abbrev pub order_text : LiveGraph → List ℕ → List ViewPlan → List ℕ
+order_text w collection views =
+    let lines = ordered w views in codes "order " ++ (collection ++ (codes " " ++ (decimal (sum_by (λ line. line.1) lines) ++ (line_end ++ (flat_map (order_line views) lines ++ (codes "end" ++ line_end))))))
+
+-- ---- a tree
+
+-- the name of a point, a view or the empty column
+abbrev pub point_name : List ViewPlan → Option ℕ → List ℕ
+point_name views None = codes "-"
+point_name views (Some v) = name_at views v
+
+abbrev pub branch_line : (Option ℕ → ℕ → ℕ) → List ViewPlan → Branch → List ℕ
+branch_line distance views b = name_at views b.view ++ (codes " " ++ (point_name views b.parent ++ (codes " " ++ (decimal (distance b.parent b.view) ++ line_end))))
+
+-- the tree's weight and the length of the tree order; a line for each view in the tree order with its parent and the distance to it;
+-- and `end`
+abbrev pub tree_text : LiveGraph → List ℕ → List ViewPlan → List ℕ
+tree_text w collection views =
+    let distance = difference w views in
+    let places = range_with_len 0 (length views) in
+    let walk = tree_walk distance places in
+    codes "tree " ++ (collection ++ (codes " " ++ (decimal (weight distance (tree distance places)) ++ (codes " " ++ (decimal (walked distance None (views_of walk)) ++ (line_end ++ (flat_map (branch_line distance views) walk ++ (codes "end" ++ line_end))))))))
 
 -- ---- what there is before a statement, which counts from 0
 
@@ -110,26 +142,32 @@ kept_at p n = flat_map (keeps p) (take n p.steps)
 
 -- ---- the order of a run
 
--- these views in the order of the rule: as they were declared, or greedily from the view before
+-- these views behind others in the order of the rule: as they were declared, or greedily from the view before
 abbrev pub in_order : OrderRule → (Option ℕ → ℕ → ℕ) → Option ℕ → List ℕ → List ℕ
 in_order order.Greedy distance before views = greedy distance before views
 in_order order.Declared distance before views = views
+in_order order.Tree distance before views = greedy distance before views
+
+-- these views in the order of the rule, where none stands before them
+abbrev pub begun_in : OrderRule → (Option ℕ → ℕ → ℕ) → List ℕ → List ℕ
+begun_in order.Tree distance views = views_of (tree_walk distance views)
+begun_in rule distance views = in_order rule distance None views
 
 -- the views that a run has at first, which are all of these
-abbrev pub first_order : GraphData → RunPlan → List ViewPlan → List ℕ
-first_order g run views = in_order run.order (difference g views) None (range_with_len 0 (length views))
+abbrev pub first_order : LiveGraph → RunPlan → List ViewPlan → List ℕ
+first_order w run views = begun_in run.order (difference w views) (range_with_len 0 (length views))
 
 -- these views, and behind them those from number `first` on, which are ordered from the last one before them
-abbrev pub longer_order : GraphData → RunPlan → List ViewPlan → List ℕ → ℕ → List ℕ
-longer_order g run views before first = before ++ in_order run.order (difference g views) (last_or None before) (range_with_len first (length views - first))
+abbrev pub longer_order : LiveGraph → RunPlan → List ViewPlan → List ℕ → ℕ → List ℕ
+longer_order w run views before first = before ++ in_order run.order (difference w views) (last_or None before) (range_with_len first (length views - first))
 
 -- What a step makes of the order of a run, which is at this place: it makes the run, or it adds views to the collection of a
 -- run that was made before it.
 abbrev pub order_after : GraphData → Plan → RunPlan → ℕ → ℕ → List ℕ → Option Step → List ℕ
-order_after g p run place n before (Some (step.Run other)) = if other == place then first_order g run (made_at p (n + 1) run.collection) else before
+order_after g p run place n before (Some (step.Run other)) = if other == place then first_order (graph_at g p (n + 1)) run (made_at p (n + 1) run.collection) else before
 order_after g p run place n before (Some (step.Append collection first count)) =
     if nat_lt place (runs_at p n) && collection == run.collection
-    then longer_order g run (made_at p (n + 1) run.collection) before (length (made_at p n run.collection))
+    then longer_order (graph_at g p (n + 1)) run (made_at p (n + 1) run.collection) before (length (made_at p n run.collection))
     else before
 order_after g p run place n before _ = before
 
@@ -141,51 +179,16 @@ order_at g p run place (suc n) = order_after g p run place n (order_at g p run p
 -- ---- the work of a run
 
 -- what a run on these views asks for
-abbrev pub run_task : Answer → GraphData → RunPlan → List ViewPlan → Task
-run_task answer g run views = record { answer = answer; program = run.program; graph = g; rounds = run.rounds; edges = λ v. edges_at g views (Some v) }
+abbrev pub run_task : Answer → LiveGraph → RunPlan → List ViewPlan → Task
+run_task answer w run views = record { answer = answer; program = run.program; graph = w.graph; rounds = run.rounds; edges = λ v. edges_at w views (Some v) }
 
 -- the same, before this step
 abbrev pub task_at : Answer → GraphData → Plan → RunPlan → ℕ → Task
-task_at answer g p run n = run_task answer g run (made_at p n run.collection)
+task_at answer g p run n = run_task answer (graph_at g p n) run (made_at p n run.collection)
 
 -- its segments then, each the list of its views
 abbrev pub segments_at : Answer → GraphData → Plan → RunPlan → ℕ → ℕ → List (List ℕ)
 segments_at answer g p run place n = segments_of (task_at answer g p run n) run.split (order_at g p run place n)
-
--- the works of all views of this order together, where the run's collection has these views
-abbrev pub order_work : Answer → GraphData → RunPlan → List ViewPlan → List ℕ → ℕ
-order_work answer g run views order = let task = run_task answer g run views in all_works task (segments_of task run.split order)
-
--- a number for what is there, and 0 where nothing is
-abbrev pub number_for : {A : Type 0} → (A → ℕ) → Option A → ℕ
-number_for f None = 0
-number_for f (Some a) = f a
-
--- how much more the works of the order behind this step are than those of the order before it
-abbrev pub longer_work : Answer → GraphData → Plan → RunPlan → ℕ → ℕ → ℕ
-longer_work answer g p run place n =
-    let views = made_at p (n + 1) run.collection in order_work answer g run views (order_at g p run place (n + 1)) - order_work answer g run views (order_at g p run place n)
-
--- the works of the views that a step adds to a kept run, if it is one on this collection
-abbrev pub added_work : Answer → GraphData → Plan → ℕ → ℕ → ℕ → ℕ
-added_work answer g p n place kept =
-    number_for (λ run. if run.collection == place then longer_work answer g p run kept n else 0) (slice_get p.runs kept)
-
-abbrev pub work_of_step : Answer → GraphData → Plan → ℕ → Step → ℕ
-work_of_step answer g p n (step.Run place) = number_for (λ run. order_work answer g run (made_at p (n + 1) run.collection) (order_at g p run place (n + 1))) (slice_get p.runs place)
-work_of_step answer g p n (step.Append place first count) = sum_by (added_work answer g p n place) (kept_at p n)
-work_of_step answer g p n _ = 0
-
--- the works of the views that this statement runs: so often it calls the updater at most
-abbrev pub step_work : Answer → GraphData → Plan → ℕ → ℕ
-step_work answer g p n = number_for (work_of_step answer g p n) (slice_get p.steps n)
-
--- the same of so many statements, and of all
-abbrev pub works : Answer → GraphData → Plan → ℕ → ℕ
-works answer g p n = sum_by (step_work answer g p) (range_with_len 0 n)
-
-abbrev pub plan_work : Answer → GraphData → Plan → ℕ
-plan_work answer g p = works answer g p (length p.steps)
 
 -- ---- the text of the work of a run
 
@@ -212,20 +215,37 @@ named_work name task views segments = codes "work " ++ (name ++ (line_end ++ (wo
 
 -- A run prints the tables of all views that its collection has by then.
 abbrev pub run_text : Answer → Form → GraphData → Plan → ℕ → RunPlan → List ℕ
-run_text answer form g p n run = list_of (λ collection. tables_text answer form g run collection.name (views_before p n collection run.collection)) (slice_get p.collections run.collection)
+run_text answer form g p n run = list_of (λ collection. tables_text answer form (graph_at g p (n + 1)) run collection.name (views_before p n collection run.collection)) (slice_get p.collections run.collection)
 
 -- the tables of the added views for a kept run, if it is one on this collection
-abbrev pub kept_text : Answer → Form → GraphData → Plan → (name : List ℕ) → List ViewPlan → ℕ → ℕ → List ℕ
-kept_text answer form g p name added place kept = list_of (λ run. if run.collection == place then tables_text answer form g run name added else []) (slice_get p.runs kept)
+abbrev pub kept_text : Answer → Form → LiveGraph → Plan → (name : List ℕ) → List ViewPlan → ℕ → ℕ → List ℕ
+kept_text answer form w p name added place kept = list_of (λ run. if run.collection == place then tables_text answer form w run name added else []) (slice_get p.runs kept)
 
 -- An append prints, for each run that is kept on its collection in the order of keeping, the tables of the views that it
 -- adds.
 abbrev pub append_text : Answer → Form → GraphData → Plan → ℕ → ℕ → List ℕ
-append_text answer form g p n place = list_of (λ collection. flat_map (kept_text answer form g p collection.name (views_added p n collection place) place) (kept_at p n)) (slice_get p.collections place)
+append_text answer form g p n place = list_of (λ collection. flat_map (kept_text answer form (graph_at g p (n + 1)) p collection.name (views_added p n collection place) place) (kept_at p n)) (slice_get p.collections place)
+
+-- Edges that come or go print, for each run that is kept by then in the order of keeping, the tables of all views of its collection,
+-- also where nothing changed.
+abbrev pub followed_text : Answer → Form → GraphData → Plan → ℕ → ℕ → List ℕ
+followed_text answer form g p n kept = list_of (run_text answer form g p n) (slice_get p.runs kept)
+
+abbrev pub edit_text : Answer → Form → GraphData → Plan → ℕ → List ℕ
+edit_text answer form g p n = flat_map (followed_text answer form g p n) (kept_at p n)
 
 -- The order of all views that a collection has by then is shown with the distance of each view from the one before.
 abbrev pub shown_text : GraphData → Plan → ℕ → ℕ → List ℕ
-shown_text g p n place = list_of (λ collection. order_text g collection.name (views_before p n collection place)) (slice_get p.collections place)
+shown_text g p n place = list_of (λ collection. order_text (graph_at g p (n + 1)) collection.name (views_before p n collection place)) (slice_get p.collections place)
+
+-- The tree order of them is shown with the tree.
+abbrev pub shown_tree : GraphData → Plan → ℕ → ℕ → List ℕ
+shown_tree g p n place = list_of (λ collection. tree_text (graph_at g p (n + 1)) collection.name (views_before p n collection place)) (slice_get p.collections place)
+
+-- The edges of each view that a collection has by then are counted by the groups of their ends, in declared order.
+abbrev pub groups_text : GraphData → Plan → ℕ → (place by : ℕ) → Option ℕ → List ℕ
+groups_text g p n place by sum =
+    list_of (λ collection. flat_map (aggregate_text (graph_at g p (n + 1)) by sum collection.name) (views_before p n collection place)) (slice_get p.collections place)
 
 -- The work of a kept run is shown view by view, in the order in which it takes them.
 abbrev pub work_text : Answer → GraphData → Plan → ℕ → ℕ → List ℕ
@@ -237,6 +257,10 @@ text_of answer form g p n (step.Run place) = list_of (run_text answer form g p n
 text_of answer form g p n (step.Append place first count) = append_text answer form g p n place
 text_of answer form g p n (step.ShowOrder place) = shown_text g p n place
 text_of answer form g p n (step.ShowWork place) = work_text answer g p n place
+text_of answer form g p n (step.ShowTree place) = shown_tree g p n place
+text_of answer form g p n (step.Insert first count) = edit_text answer form g p n
+text_of answer form g p n (step.Remove rule) = edit_text answer form g p n
+text_of answer form g p n (step.Aggregate place by sum) = groups_text g p n place by sum
 text_of answer form g p n _ = []
 
 -- the text of this statement
@@ -259,3 +283,4 @@ pub record IsRun (g : GraphData) (run : RunPlan) : Type 0 where
   pub some : 1 ≤ number_of run.rounds
   pub few : number_of run.rounds ≤ 1_000_000
   pub split : HasNumber run.split
+  pub phases : IfSome run.phases (λ n. (1 ≤ n) × (n ≤ 1_000))

@@ -12,4 +12,4 @@ data_of s = record { graph = s.graph.now; plan = s.plan.now; form = s.form; exec
 pub record IsSession {U : Type 0} (answer : Answer) (s : Inside U) : Type 0 where
   pub fits : PlanFits s.graph.now s.plan.now
   pub within : s.executed ≤ length s.plan.now.steps
-  pub at : s.spent ≡ false → IsAt answer s.graph.now s.plan.now s.executed s.state.made.items s.state.kept.items
+  pub at : s.spent ≡ false → IsAt answer s.graph.now s.plan.now s.executed s.state.live.items s.state.made.items s.state.kept.items

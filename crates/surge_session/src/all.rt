@@ -4,7 +4,8 @@ ghost use Rattle.std.specs.Prelude.{◌≡◌, ◌+◌, ◌≤◌, OnOk, OnErr};
 ghost use Rattle.surge_outside.specs.Counts.{HasRisen};
 ghost use Rattle.surge_outside.specs.Written.{GrewByFront, appended};
 ghost use Rattle.gvdl_check.specs.Fits.{PlanFits};
-ghost use Rattle.surge_session.specs.Output.{plan_text, plan_work};
+ghost use Rattle.surge_session.specs.Output.{plan_text};
+ghost use Rattle.surge_session.specs.Works.{plan_work};
 
 use crate::session::{Next, Session, SessionFault};
 use graph_model::Graph;

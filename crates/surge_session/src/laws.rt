@@ -1,7 +1,9 @@
 //! What a longer script leaves as it was.
 
-ghost use Rattle.std.specs.Prelude.{◌≡◌};
-ghost use Rattle.gvdl_check.specs.Plans.{plan};
+ghost use Rattle.std.specs.Prelude.{◌≡◌, ◌≤◌, ◌+◌, ◌++◌, length, sum, Ok};
+ghost use Rattle.std.specs.List.{sum_by};
+ghost use Rattle.grown_graphs.specs.Growing.{GrowsTo};
+ghost use Rattle.gvdl_check.specs.Plans.{files_of, plan};
 ghost use Rattle.gvdl_check.specs.Continued.{IsContinued};
 ghost use Rattle.surge_session.specs.Continuing.{KeepsTexts};
 
@@ -10,18 +12,26 @@ use gvdl_check::Plan;
 use gvdl_tree::Script;
 use vertex_lang::Updater;
 
-/// Where a script is continued by further statements, as by an append, and both have a plan over a graph, the output of the
-/// first is a front of the output of the longer one. And where a later statement runs the same call for the same rounds again
-/// on the same collection, it prints for each view that was there before the same text. It does nothing: it lends proofs this law of what is printed.
-pub fn keeps_texts<U: Updater>(
-    graph: &Graph,
-    script: &Script,
-    longer: &Script,
-    before: &Plan,
-    after: &Plan,
-)
-    requires continued { IsContinued script.now longer.now }
-    requires before { plan script.now graph.now ≡ Ok before.now }
-    requires after { plan longer.now graph.now ≡ Ok after.now }
-    ensures { KeepsTexts U.answer graph.now before.now after.now }
+/// A script over a graph, and the numbers of edges that come with the edges file and with each file that the script inserts,
+/// which together are those of the graph; and its plan.
+pub struct Planned<'a> {
+    pub script: &'a Script,
+    pub graph: &'a Graph,
+    pub groups: &'a [u32],
+    pub plan: &'a Plan,
+}
+
+/// Where a script is continued by further statements, and both have a plan, each over the graph of its files, the output of the
+/// first is a front of the output of the longer one. And where a later statement runs the same call for the same rounds and
+/// phases again on the same collection, and no edge came or went between, it prints for each view that was there before the same
+/// text. It does nothing: it lends proofs this law of what is printed.
+pub fn keeps_texts<U: Updater>(before: &Planned<'_>, after: &Planned<'_>, behind: &[u32])
+    requires continued { IsContinued before.now.script.now after.now.script.now }
+    requires graph { GrowsTo before.now.graph.now after.now.graph.now }
+    requires edges { sum before.now.groups.now ≡ length before.now.graph.now.ends }
+    requires files { 1 + sum_by files_of before.now.script.now.statements ≤ length before.now.groups.now }
+    requires groups { after.now.groups.now ≡ before.now.groups.now ++ behind.now }
+    requires before { plan before.now.script.now before.now.graph.now before.now.groups.now ≡ Ok before.now.plan.now }
+    requires after { plan after.now.script.now after.now.graph.now after.now.groups.now ≡ Ok after.now.plan.now }
+    ensures { KeepsTexts U.answer before.now.graph.now after.now.graph.now before.now.plan.now after.now.plan.now }
 {}

@@ -8,11 +8,14 @@
 //! statement, by the statement and those before it, the order in which a run takes its views, and how often the updater is
 //! called at most. It promises the rooms above that each call that answers [`Next::Ran`] wrote exactly the text of the next
 //! statement, that a call that answers a fault wrote a front of it, and that a longer script prints what the shorter one
-//! did, and more ([`keeps_texts`]). A matrix is made once for each collection and grows at an append, and the engine of a
-//! kept run goes on from the views that it has run.
+//! did, and more ([`keeps_texts`]). A matrix is made once for each collection, grows at an append and follows edges that
+//! come and go, and the engine of a kept run goes on from the views that it has run: where edges come or go behind it, it
+//! is one that follows them.
 #![tactic(auto)]
 
 mod all;
+mod edit;
+mod groups;
 mod kept;
 mod laws;
 mod order;
@@ -21,9 +24,10 @@ mod session;
 mod state;
 mod statement;
 mod tables;
+mod tree;
 mod view;
 mod work;
 
 pub use all::run_all;
-pub use laws::keeps_texts;
+pub use laws::{Planned, keeps_texts};
 pub use session::{Next, Session, SessionFault};

@@ -10,7 +10,7 @@ ghost use Rattle.result_tables.specs.TableText.{line_end};
 ghost use Rattle.view_matrix.specs.Matrices.{IsView};
 ghost use Rattle.view_order.specs.Greedy.{greedy, numbers};
 ghost use Rattle.surge_session.specs.Output.{difference, with_distances, order_line, order_text};
-ghost use Rattle.surge_session.specs.State.{Shows};
+ghost use Rattle.surge_session.specs.State.{Shows, shown_graph};
 
 use graph_model::{Graph, ViewNo};
 use gvdl_check::ViewPlan;
@@ -33,9 +33,9 @@ fn greedy_order(
     matrix: &Matrix,
     graph: &Graph,
 ) -> Result<List<ViewNo>, NoMemory>
-    requires shown { Shows graph.now matrix.now 0 views.now }
+    requires shown { Shows (shown_graph graph.now matrix.now) matrix.now 0 views.now }
     requires all { length matrix.now.columns ≡ length views.now }
-    ensures order { IfOk result (λ order. numbers order ≡ greedy (difference graph.now views.now) None (range_with_len 0 (length views.now))) }
+    ensures order { IfOk result (λ order. numbers order ≡ greedy (difference (shown_graph graph.now matrix.now) views.now) None (range_with_len 0 (length views.now))) }
     ensures views { IfOk result (All (IsView matrix.now)) }
     ensures few { IfOk result (λ order. length order ≤ 1_024) }
 {
@@ -63,12 +63,12 @@ fn order_lines(
     order: &[ViewNo],
     graph: &Graph,
 ) -> Result<Lines, NoMemory>
-    requires shown { Shows graph.now matrix.now 0 views.now }
+    requires shown { Shows (shown_graph graph.now matrix.now) matrix.now 0 views.now }
     requires all { length matrix.now.columns ≡ length views.now }
     requires views { All (IsView matrix.now) order.now }
     requires few { length order.now ≤ 1_024 }
-    ensures text { IfOk result (λ lines. lines.text.items ≡ flat_map (order_line views.now) (with_distances (difference graph.now views.now) None (numbers order.now))) }
-    ensures total { IfOk result (λ lines. lines.total ≡ sum_by (λ line. line.1) (with_distances (difference graph.now views.now) None (numbers order.now))) }
+    ensures text { IfOk result (λ lines. lines.text.items ≡ flat_map (order_line views.now) (with_distances (difference (shown_graph graph.now matrix.now) views.now) None (numbers order.now))) }
+    ensures total { IfOk result (λ lines. lines.total ≡ sum_by (λ line. line.1) (with_distances (difference (shown_graph graph.now matrix.now) views.now) None (numbers order.now))) }
 {
     let mut text = Vec::new(alloc);
     let mut total = 0u64;
@@ -95,9 +95,9 @@ fn order_text(
     matrix: &Matrix,
     graph: &Graph,
 ) -> Result<Vec<u8>, NoMemory>
-    requires shown { Shows graph.now matrix.now 0 views.now }
+    requires shown { Shows (shown_graph graph.now matrix.now) matrix.now 0 views.now }
     requires all { length matrix.now.columns ≡ length views.now }
-    ensures { IfOk result (λ text. text.items ≡ order_text graph.now collection.now views.now) }
+    ensures { IfOk result (λ text. text.items ≡ order_text (shown_graph graph.now matrix.now) collection.now views.now) }
 {
     let order = greedy_order(alloc, views, matrix, graph)?;
     let Lines { text: lines, total } = order_lines(alloc, views, matrix, order.as_slice(), graph)?;
@@ -116,10 +116,10 @@ pub(crate) fn write_order<O: Sink>(
     graph: &Graph,
     out: &mut O,
 ) -> Result<(), Trouble>
-    requires shown { Shows graph.now matrix.now 0 views.now }
+    requires shown { Shows (shown_graph graph.now matrix.now) matrix.now 0 views.now }
     requires all { length matrix.now.columns ≡ length views.now }
-    ensures ok { OnOk result (O.written out.new ≡ appended (O.written out.old) (order_text graph.now collection.now views.now)) }
-    ensures err { OnErr result (GrewByFront (O.written out.old) (O.written out.new) (order_text graph.now collection.now views.now)) }
+    ensures ok { OnOk result (O.written out.new ≡ appended (O.written out.old) (order_text (shown_graph graph.now matrix.now) collection.now views.now)) }
+    ensures err { OnErr result (GrewByFront (O.written out.old) (O.written out.new) (order_text (shown_graph graph.now matrix.now) collection.now views.now)) }
     ensures faults { O.faults out.old ≤ O.faults out.new }
     ensures failed { result ≡ Err Trouble.Failed → HasRisen (O.faults out.old) (O.faults out.new) }
 {

@@ -4,7 +4,8 @@ ghost use Rattle.std.specs.Prelude.{◌≡◌, ◌+◌, ◌≤◌, ◌↔◌, fa
 ghost use Rattle.surge_outside.specs.Counts.{HasRisen};
 ghost use Rattle.surge_outside.specs.Written.{GrewByFront, appended};
 ghost use Rattle.gvdl_check.specs.Fits.{PlanFits};
-ghost use Rattle.surge_session.specs.Output.{step_text, step_work};
+ghost use Rattle.surge_session.specs.Output.{step_text};
+ghost use Rattle.surge_session.specs.Works.{step_work};
 ghost use Rattle.surge_session.specs.Sessions.{new_session, after_one, spent_one};
 
 use crate::state::State;
@@ -128,9 +129,10 @@ impl<'g, U: Updater> Session<'g, U> {
     }
 
     /// Executes the next statement and writes what it prints: [`Next::Ran`], or [`Next::Ended`] exactly where every
-    /// statement was executed before, which changes nothing. Each table or text of a show goes out as one piece, and then
+    /// statement was executed before, which changes nothing. Each table or text of a show, and each view of an aggregate, goes out as one piece, and then
     /// the rest of it while the sink takes less. The updater is called at most as often as the works of the views that the
-    /// statement runs say.
+    /// statement runs say; of a run that follows edges for each node and round of a view at first, and for each node that is
+    /// touched where edges come or go; in phases for each node, round and phase of a view with edges of its own.
     ///
     /// # Errors
     ///
@@ -154,7 +156,7 @@ impl<'g, U: Updater> Session<'g, U> {
                 self.alloc,
                 plan,
                 self.executed,
-                *step,
+                step,
                 &mut self.state,
                 self.graph,
                 self.form,

@@ -1,48 +1,60 @@
 //! What is kept from statement to statement.
 
-ghost use Rattle.std.specs.Prelude.{◌≡◌, ◌≢◌, ℕ, ◌+◌, ◌<◌, ◌≤◌, None, Some, [], true, min, length, replicate, slice_get, slice_range, All, IfOk, IfSome, OnOk, if◌then◌else◌, ◌==◌};
+ghost use Rattle.std.specs.Prelude.{◌≡◌, ◌≢◌, ℕ, ◌+◌, ◌<◌, ◌≤◌, None, Some, [], min, length, slice_get, slice_range, All, IfOk, IfSome, IsTrue, is_some, OnOk, if◌then◌else◌, ◌==◌};
 ghost use Rattle.vertex_lang.specs.Expressions.{Answer};
 ghost use Rattle.gvdl_check.specs.Fits.{PlanFits};
 ghost use Rattle.view_matrix.specs.Matrices.{MatrixData, matrix_of, with_views};
+ghost use Rattle.view_order.specs.Greedy.{numbers};
 ghost use Rattle.gvdl_check.specs.Steps.{runs_at, views_at};
+ghost use Rattle.surge_session.specs.Live.{live_loaded, graph_at};
 ghost use Rattle.surge_session.specs.Output.{made_at, order_at};
-ghost use Rattle.surge_session.specs.State.{IsAt, IsKept, HasRun, MatricesAt, rules_of};
+ghost use Rattle.surge_session.specs.State.{IsAt, IsKept, HasRunIn, MatricesAt, order_in, rules_of};
 
-use crate::kept::Kept;
+use crate::kept::{Kept, RunEngine};
 use graph_model::Graph;
 use gvdl_check::{CollectionPlan, Plan, RunPlan, Step, ViewPlan};
 use std::alloc::Global;
 use surge_outside::{List, NoMemory};
 use vertex_lang::Updater;
-use view_engine::Engine;
 use view_matrix::Matrix;
+use view_versions::stands_with_more;
 
 /// What is kept from statement to statement.
 #[derive(Drop)]
 pub(crate) struct State<'g> {
+    /// Whether each edge of the graph is live.
+    pub(crate) live: Vec<bool>,
     /// The matrix of each collection, with the views that it has so far.
     pub(crate) made: Vec<Matrix>,
     /// The runs that are kept, in the order of keeping.
     pub(crate) kept: Vec<Kept<'g>>,
 }
 
-// One truth value for each edge of a graph, each true.
-fn all_live(alloc: Global, graph: &Graph) -> Result<List<bool>, NoMemory>
-    ensures { IfOk result (λ live. live ≡ replicate (length graph.now.ends) true) }
+// Whether each edge of a graph is live after the load of so many.
+fn live_first(alloc: Global, graph: &Graph, plan: &Plan) -> Result<List<bool>, NoMemory>
+    ensures { IfOk result (λ live. live ≡ live_loaded graph.now plan.now) }
 {
-    let live = vec![in alloc; true; graph.edge_count() as usize]?;
+    let mut live = Vec::with_capacity(alloc, graph.edge_count() as usize)?;
+    for edge in 0..graph.edge_count() {
+        live.push(edge < plan.loaded)?;
+    }
     Ok(List::from_vec(live))
 }
 
 // For each collection a matrix without views.
-fn empty_matrices(alloc: Global, graph: &Graph, count: usize) -> Result<Vec<Matrix>, NoMemory>
+fn empty_matrices(
+    alloc: Global,
+    graph: &Graph,
+    live: &List<bool>,
+    count: usize,
+) -> Result<Vec<Matrix>, NoMemory>
+    requires { length live.now ≡ length graph.now.ends }
     ensures count { IfOk result (λ made. length made.items ≡ count) }
-    ensures empty { IfOk result (λ made. All (λ m. m ≡ matrix_of graph.now (replicate (length graph.now.ends) true) []) made.items) }
+    ensures empty { IfOk result (λ made. All (λ m. m ≡ matrix_of graph.now live.now []) made.items) }
 {
-    let live = all_live(alloc, graph)?;
     let mut made = Vec::new(alloc);
     for _place in 0..count {
-        made.push(Matrix::build(alloc, graph, &live, &[])?)?;
+        made.push(Matrix::build(alloc, graph, live, &[])?)?;
     }
     Ok(made)
 }
@@ -87,11 +99,16 @@ fn grow_matrix(
 impl<'g> State<'g> {
     /// Before the first statement no collection has a view, and no run is kept.
     pub(crate) fn new(alloc: Global, graph: &Graph, plan: &Plan) -> Result<State<'g>, NoMemory>
-        ensures { IfOk result (λ state. (answer : Answer) → IsAt answer graph.now plan.now 0 state.made.items state.kept.items) }
+        ensures { IfOk result (λ state. (answer : Answer) → IsAt answer graph.now plan.now 0 state.live.items state.made.items state.kept.items) }
     {
-        let made = empty_matrices(alloc, graph, plan.collections.len())?;
+        let live = live_first(alloc, graph, plan)?;
+        let made = empty_matrices(alloc, graph, &live, plan.collections.len())?;
         let kept = Vec::new(alloc);
-        Ok(State { made, kept })
+        Ok(State {
+            live: live.into_vec(),
+            made,
+            kept,
+        })
     }
 
     /// How many views a collection has, by its place.
@@ -116,12 +133,15 @@ impl<'g> State<'g> {
         count: u32,
     ) -> Result<(), NoMemory>
         requires fits { PlanFits graph.now plan.now }
-        requires at { IsAt U.answer graph.now plan.now n self.old.made.items self.old.kept.items }
+        requires at { IsAt U.answer graph.now plan.now n self.old.live.items self.old.made.items self.old.kept.items }
+        requires same { graph_at graph.now plan.now (n + 1) ≡ graph_at graph.now plan.now n }
         requires views { (other : ℕ) → views_at plan.now (n + 1) other ≡ views_at plan.now n other + (if place == other then count else 0) }
         ensures matrices { OnOk result (MatricesAt graph.now plan.now (n + 1) self.new.made.items) }
+        ensures live { self.new.live ≡ self.old.live }
         ensures kept { self.new.kept ≡ self.old.kept }
         ensures each { OnOk result (All (IsKept U.answer graph.now plan.now n self.new.made.items) self.new.kept.items) }
     {
+        stands_with_more();
         match plan.collections.as_slice().get(place as usize) {
             Some(collection) => {
                 let matrix = &mut self.made[place as usize];
@@ -139,16 +159,18 @@ impl<'g> State<'g> {
         n: usize,
         place: u32,
         run: &RunPlan,
-        engine: Engine<'g>,
+        engine: RunEngine<'g>,
     ) -> Result<(), NoMemory>
-        requires at { IsAt U.answer graph.now plan.now n self.old.made.items self.old.kept.items }
+        requires at { IsAt U.answer graph.now plan.now n self.old.live.items self.old.made.items self.old.kept.items }
         requires step { slice_get plan.now.steps n ≡ Some (Step.Run place) }
         requires run { slice_get plan.now.runs place ≡ Some run.now }
+        requires unphased { IsTrue (is_some run.now.keep) → run.now.phases ≡ None }
         requires place { place ≡ runs_at plan.now n }
         requires matrix { run.now.collection < length self.old.made.items }
-        requires has { (m : MatrixData) → slice_get self.old.made.items run.now.collection ≡ Some m → HasRun U.answer graph.now run.now m (order_at graph.now plan.now run.now place (n + 1)) engine }
-        requires count { length engine.order ≤ length (made_at plan.now n run.now.collection) }
-        ensures { OnOk result (IsAt U.answer graph.now plan.now (n + 1) self.new.made.items self.new.kept.items) }
+        requires has { (m : MatrixData) → slice_get self.old.made.items run.now.collection ≡ Some m → HasRunIn U.answer graph.now run.now m engine }
+        requires order { numbers (order_in engine) ≡ order_at graph.now plan.now run.now place (n + 1) }
+        requires count { length (order_in engine) ≤ length (made_at plan.now n run.now.collection) }
+        ensures { OnOk result (IsAt U.answer graph.now plan.now (n + 1) self.new.live.items self.new.made.items self.new.kept.items) }
     {
         if run.keep.is_some() {
             self.kept.push(Kept { place, engine })?;

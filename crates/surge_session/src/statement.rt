@@ -1,77 +1,30 @@
 //! What a statement asks for.
 
-ghost use Rattle.std.specs.Prelude.{◌≡◌, ◌+◌, ◌<◌, ◌≤◌, ℕ, Some, length, take, slice_get, slice_range, flat_map, sum_by, All, OnOk, OnErr};
+ghost use Rattle.std.specs.Prelude.{◌≡◌, ◌+◌, ◌≤◌, ℕ, Some, length, slice_get, slice_range, flat_map, sum_by, All, OnOk, OnErr};
 ghost use Rattle.surge_outside.specs.Counts.{HasRisen};
 ghost use Rattle.surge_outside.specs.Written.{GrewByFront, appended};
 ghost use Rattle.gvdl_check.specs.Fits.{PlanFits};
-ghost use Rattle.view_matrix.specs.Laws.{ShowsViews};
-ghost use Rattle.view_order.specs.Greedy.{numbers};
-ghost use Rattle.surge_session.specs.Output.{made_at, kept_at, tables_text, kept_text, append_text, shown_text, work_text, step_text, added_work, step_work};
-ghost use Rattle.surge_session.specs.State.{HasRun, IsAt, IsKept, MatricesAt, places_of, rules_of};
+ghost use Rattle.surge_session.specs.Output.{made_at, kept_text, append_text, shown_text, shown_tree, groups_text, work_text, step_text};
+ghost use Rattle.surge_session.specs.Live.{graph_at};
+ghost use Rattle.surge_session.specs.Works.{added_work, step_work};
+ghost use Rattle.surge_session.specs.State.{IsAt, IsKept, MatricesAt, places_of};
 
+use crate::edit::{execute_insert, execute_remove};
+use crate::groups::{Grouping, write_groups};
 use crate::kept::Kept;
 use crate::order::write_order;
 use crate::run::{run_first, run_more};
 use crate::state::State;
-use crate::tables::write_tables;
-use crate::work::work_text;
+use crate::tables::{views_between, write_from};
+use crate::tree::write_tree;
+use crate::work::write_work;
 use graph_model::Graph;
-use gvdl_check::{CollectionPlan, Plan, RunPlan, Step, ViewPlan};
+use gvdl_check::{CollectionPlan, Plan, Step};
 use result_tables::Form;
 use std::alloc::Global;
-use surge_outside::{NoMemory, Sink, Trouble, put_all};
+use surge_outside::{NoMemory, Sink, Trouble};
 use vertex_lang::Updater;
-use view_engine::Engine;
 use view_matrix::Matrix;
-
-// The views from one place up to another.
-fn views_between(views: &[ViewPlan], first: usize, end: usize) -> &[ViewPlan]
-    requires order { first ≤ end }
-    requires within { end ≤ length views.now }
-    ensures { result.now ≡ slice_range views.now first end }
-{
-    &views[first..end]
-}
-
-// Writes the tables of the views that a matrix has from number `first` on.
-fn write_from<O: Sink, U: Updater>(
-    alloc: Global,
-    run: &RunPlan,
-    collection: &CollectionPlan,
-    matrix: &Matrix,
-    first: u32,
-    engine: &Engine,
-    form: Form,
-    graph: &Graph,
-    out: &mut O,
-) -> Result<(), Trouble>
-    requires first { first ≤ length matrix.now.columns }
-    requires within { length matrix.now.columns ≤ length collection.now.views }
-    requires shows { ShowsViews graph.now (rules_of (take (length matrix.now.columns) collection.now.views)) matrix.now }
-    requires has { HasRun U.answer graph.now run.now matrix.now (numbers engine.now.order) engine.now }
-    ensures ok { OnOk result (O.written out.new ≡ appended (O.written out.old) (tables_text U.answer form graph.now run.now collection.now.name (slice_range collection.now.views first (length matrix.now.columns)))) }
-    ensures err { OnErr result (GrewByFront (O.written out.old) (O.written out.new) (tables_text U.answer form graph.now run.now collection.now.name (slice_range collection.now.views first (length matrix.now.columns)))) }
-    ensures faults { O.faults out.old ≤ O.faults out.new }
-    ensures failed { result ≡ Err Trouble.Failed → HasRisen (O.faults out.old) (O.faults out.new) }
-{
-    let views = views_between(
-        collection.views.as_slice(),
-        first as usize,
-        matrix.views() as usize,
-    );
-    write_tables::<O, U>(
-        alloc,
-        run,
-        &collection.name,
-        views,
-        matrix,
-        first,
-        engine,
-        form,
-        graph,
-        out,
-    )
-}
 
 // Makes a run, and keeps it if it has a name.
 fn execute_run<'g, O: Sink, U: Updater>(
@@ -88,8 +41,8 @@ fn execute_run<'g, O: Sink, U: Updater>(
 ) -> Result<(), Trouble>
     requires fits { PlanFits graph.now plan.now }
     requires step { slice_get plan.now.steps n ≡ Some (Step.Run place) }
-    requires at { IsAt U.answer graph.now plan.now n state.old.made.items state.old.kept.items }
-    ensures at { OnOk result (IsAt U.answer graph.now plan.now (n + 1) state.new.made.items state.new.kept.items) }
+    requires at { IsAt U.answer graph.now plan.now n state.old.live.items state.old.made.items state.old.kept.items }
+    ensures at { OnOk result (IsAt U.answer graph.now plan.now (n + 1) state.new.live.items state.new.made.items state.new.kept.items) }
     ensures ok { OnOk result (O.written out.new ≡ appended (O.written out.old) (step_text U.answer form graph.now plan.now n)) }
     ensures err { OnErr result (GrewByFront (O.written out.old) (O.written out.new) (step_text U.answer form graph.now plan.now n)) }
     ensures calls { OnOk result (U.calls updater.new ≤ U.calls updater.old + step_work U.answer graph.now plan.now n) }
@@ -138,8 +91,8 @@ fn append_kept<O: Sink, U: Updater>(
     requires kept { IsKept U.answer graph.now plan.now n made.now kept.old }
     ensures kept { OnOk result (IsKept U.answer graph.now plan.now (n + 1) made.now kept.new) }
     ensures place { kept.new.place ≡ kept.old.place }
-    ensures ok { OnOk result (O.written out.new ≡ appended (O.written out.old) (kept_text U.answer form graph.now plan.now collection.now.name (slice_range collection.now.views first (length (made_at plan.now (n + 1) place))) place kept.old.place)) }
-    ensures err { OnErr result (GrewByFront (O.written out.old) (O.written out.new) (kept_text U.answer form graph.now plan.now collection.now.name (slice_range collection.now.views first (length (made_at plan.now (n + 1) place))) place kept.old.place)) }
+    ensures ok { OnOk result (O.written out.new ≡ appended (O.written out.old) (kept_text U.answer form (graph_at graph.now plan.now (n + 1)) plan.now collection.now.name (slice_range collection.now.views first (length (made_at plan.now (n + 1) place))) place kept.old.place)) }
+    ensures err { OnErr result (GrewByFront (O.written out.old) (O.written out.new) (kept_text U.answer form (graph_at graph.now plan.now (n + 1)) plan.now collection.now.name (slice_range collection.now.views first (length (made_at plan.now (n + 1) place))) place kept.old.place)) }
     ensures calls { OnOk result (U.calls updater.new ≤ U.calls updater.old + added_work U.answer graph.now plan.now n place kept.old.place) }
     ensures faults { O.faults out.old ≤ O.faults out.new }
     ensures failed { result ≡ Err Trouble.Failed → HasRisen (O.faults out.old) (O.faults out.new) }
@@ -149,7 +102,8 @@ fn append_kept<O: Sink, U: Updater>(
         return Ok(());
     }
     let matrix = &made[place as usize];
-    match run_more(alloc, run, &mut kept.engine, matrix, first, turns, updater) {
+    let engine = &mut kept.engine;
+    match run_more(alloc, graph, run, engine, matrix, first, turns, updater) {
         Ok(()) => {}
         Err(NoMemory) => return Err(Trouble::NoMemory),
     }
@@ -190,8 +144,8 @@ fn append_all<O: Sink, U: Updater>(
     requires kept { All (IsKept U.answer graph.now plan.now n made.now) kept.old }
     ensures kept { OnOk result (All (IsKept U.answer graph.now plan.now (n + 1) made.now) kept.new) }
     ensures places { OnOk result (places_of kept.new ≡ places_of kept.old) }
-    ensures ok { OnOk result (O.written out.new ≡ appended (O.written out.old) (flat_map (kept_text U.answer form graph.now plan.now collection.now.name (slice_range collection.now.views first (length (made_at plan.now (n + 1) place))) place) (places_of kept.old))) }
-    ensures err { OnErr result (GrewByFront (O.written out.old) (O.written out.new) (flat_map (kept_text U.answer form graph.now plan.now collection.now.name (slice_range collection.now.views first (length (made_at plan.now (n + 1) place))) place) (places_of kept.old))) }
+    ensures ok { OnOk result (O.written out.new ≡ appended (O.written out.old) (flat_map (kept_text U.answer form (graph_at graph.now plan.now (n + 1)) plan.now collection.now.name (slice_range collection.now.views first (length (made_at plan.now (n + 1) place))) place) (places_of kept.old))) }
+    ensures err { OnErr result (GrewByFront (O.written out.old) (O.written out.new) (flat_map (kept_text U.answer form (graph_at graph.now plan.now (n + 1)) plan.now collection.now.name (slice_range collection.now.views first (length (made_at plan.now (n + 1) place))) place) (places_of kept.old))) }
     ensures calls { OnOk result (U.calls updater.new ≤ U.calls updater.old + sum_by (added_work U.answer graph.now plan.now n place) (places_of kept.old)) }
     ensures faults { O.faults out.old ≤ O.faults out.new }
     ensures failed { result ≡ Err Trouble.Failed → HasRisen (O.faults out.old) (O.faults out.new) }
@@ -234,8 +188,8 @@ fn execute_append<'g, O: Sink, U: Updater>(
 ) -> Result<(), Trouble>
     requires fits { PlanFits graph.now plan.now }
     requires step { (first : ℕ) × (slice_get plan.now.steps n ≡ Some (Step.Append place first count)) }
-    requires at { IsAt U.answer graph.now plan.now n state.old.made.items state.old.kept.items }
-    ensures at { OnOk result (IsAt U.answer graph.now plan.now (n + 1) state.new.made.items state.new.kept.items) }
+    requires at { IsAt U.answer graph.now plan.now n state.old.live.items state.old.made.items state.old.kept.items }
+    ensures at { OnOk result (IsAt U.answer graph.now plan.now (n + 1) state.new.live.items state.new.made.items state.new.kept.items) }
     ensures ok { OnOk result (O.written out.new ≡ appended (O.written out.old) (append_text U.answer form graph.now plan.now n place)) }
     ensures err { OnErr result (GrewByFront (O.written out.old) (O.written out.new) (append_text U.answer form graph.now plan.now n place)) }
     ensures calls { OnOk result (U.calls updater.new ≤ U.calls updater.old + step_work U.answer graph.now plan.now n) }
@@ -274,6 +228,7 @@ fn show_order<O: Sink>(
     graph: &Graph,
     out: &mut O,
 ) -> Result<(), Trouble>
+    requires step { slice_get plan.now.steps n ≡ Some (Step.ShowOrder place) }
     requires at { MatricesAt graph.now plan.now n state.now.made.items }
     ensures ok { OnOk result (O.written out.new ≡ appended (O.written out.old) (shown_text graph.now plan.now n place)) }
     ensures err { OnErr result (GrewByFront (O.written out.old) (O.written out.new) (shown_text graph.now plan.now n place)) }
@@ -285,6 +240,62 @@ fn show_order<O: Sink>(
             let matrix = &state.made[place as usize];
             let views = views_between(collection.views.as_slice(), 0, matrix.views() as usize);
             write_order(alloc, &collection.name, views, matrix, graph, out)
+        }
+        None => Ok(()),
+    }
+}
+
+// Shows the tree of the views that a collection has so far.
+fn show_tree<O: Sink>(
+    alloc: Global,
+    plan: &Plan,
+    n: usize,
+    place: u32,
+    state: &State,
+    graph: &Graph,
+    out: &mut O,
+) -> Result<(), Trouble>
+    requires step { slice_get plan.now.steps n ≡ Some (Step.ShowTree place) }
+    requires at { MatricesAt graph.now plan.now n state.now.made.items }
+    ensures ok { OnOk result (O.written out.new ≡ appended (O.written out.old) (shown_tree graph.now plan.now n place)) }
+    ensures err { OnErr result (GrewByFront (O.written out.old) (O.written out.new) (shown_tree graph.now plan.now n place)) }
+    ensures faults { O.faults out.old ≤ O.faults out.new }
+    ensures failed { result ≡ Err Trouble.Failed → HasRisen (O.faults out.old) (O.faults out.new) }
+{
+    match plan.collections.as_slice().get(place as usize) {
+        Some(collection) => {
+            let matrix = &state.made[place as usize];
+            let views = views_between(collection.views.as_slice(), 0, matrix.views() as usize);
+            write_tree(alloc, &collection.name, views, matrix, graph, out)
+        }
+        None => Ok(()),
+    }
+}
+
+// Counts the edges of the views that a collection has so far by the groups of their ends.
+fn aggregate<O: Sink>(
+    alloc: Global,
+    plan: &Plan,
+    n: usize,
+    place: u32,
+    grouping: Grouping,
+    state: &State,
+    graph: &Graph,
+    out: &mut O,
+) -> Result<(), Trouble>
+    requires fits { PlanFits graph.now plan.now }
+    requires step { slice_get plan.now.steps n ≡ Some (Step.Aggregate place grouping.by grouping.sum) }
+    requires at { MatricesAt graph.now plan.now n state.now.made.items }
+    ensures ok { OnOk result (O.written out.new ≡ appended (O.written out.old) (groups_text graph.now plan.now n place grouping.by grouping.sum)) }
+    ensures err { OnErr result (GrewByFront (O.written out.old) (O.written out.new) (groups_text graph.now plan.now n place grouping.by grouping.sum)) }
+    ensures faults { O.faults out.old ≤ O.faults out.new }
+    ensures failed { result ≡ Err Trouble.Failed → HasRisen (O.faults out.old) (O.faults out.new) }
+{
+    match plan.collections.as_slice().get(place as usize) {
+        Some(collection) => {
+            let matrix = &state.made[place as usize];
+            let views = views_between(collection.views.as_slice(), 0, matrix.views() as usize);
+            write_groups(alloc, &collection.name, views, matrix, graph, grouping, out)
         }
         None => Ok(()),
     }
@@ -302,7 +313,7 @@ fn show_work<O: Sink, U: Updater>(
 ) -> Result<(), Trouble>
     requires fits { PlanFits graph.now plan.now }
     requires step { slice_get plan.now.steps n ≡ Some (Step.ShowWork place) }
-    requires at { IsAt U.answer graph.now plan.now n state.now.made.items state.now.kept.items }
+    requires at { IsAt U.answer graph.now plan.now n state.now.live.items state.now.made.items state.now.kept.items }
     ensures ok { OnOk result (O.written out.new ≡ appended (O.written out.old) (work_text U.answer graph.now plan.now n place)) }
     ensures err { OnErr result (GrewByFront (O.written out.old) (O.written out.new) (work_text U.answer graph.now plan.now n place)) }
     ensures faults { O.faults out.old ≤ O.faults out.new }
@@ -314,10 +325,7 @@ fn show_work<O: Sink, U: Updater>(
             let collection = &plan.collections.as_slice()[run.collection as usize];
             let matrix = &state.made[run.collection as usize];
             let views = views_between(collection.views.as_slice(), 0, matrix.views() as usize);
-            match work_text(alloc, name.as_str(), views, &state.kept[i].engine) {
-                Ok(text) => put_all(out, text.as_slice()),
-                Err(NoMemory) => Err(Trouble::NoMemory),
-            }
+            write_work(alloc, name.as_str(), views, &state.kept[i].engine, out)
         }
         _ => Ok(()),
     }
@@ -335,8 +343,8 @@ fn execute_make<U: Updater>(
 ) -> Result<(), Trouble>
     requires fits { PlanFits graph.now plan.now }
     requires step { slice_get plan.now.steps n ≡ Some (Step.Make place count) }
-    requires at { IsAt U.answer graph.now plan.now n state.old.made.items state.old.kept.items }
-    ensures at { OnOk result (IsAt U.answer graph.now plan.now (n + 1) state.new.made.items state.new.kept.items) }
+    requires at { IsAt U.answer graph.now plan.now n state.old.live.items state.old.made.items state.old.kept.items }
+    ensures at { OnOk result (IsAt U.answer graph.now plan.now (n + 1) state.new.live.items state.new.made.items state.new.kept.items) }
     ensures memory { OnErr result (result ≡ Err Trouble.NoMemory) }
 {
     match state.grow::<U>(alloc, graph, plan, n, place, count) {
@@ -350,7 +358,7 @@ pub(crate) fn execute<'g, O: Sink, U: Updater>(
     alloc: Global,
     plan: &'g Plan,
     n: usize,
-    step: Step,
+    step: &Step,
     state: &mut State<'g>,
     graph: &'g Graph,
     form: Form,
@@ -359,9 +367,9 @@ pub(crate) fn execute<'g, O: Sink, U: Updater>(
     updater: &mut U,
 ) -> Result<(), Trouble>
     requires fits { PlanFits graph.now plan.now }
-    requires step { slice_get plan.now.steps n ≡ Some step }
-    requires at { IsAt U.answer graph.now plan.now n state.old.made.items state.old.kept.items }
-    ensures at { OnOk result (IsAt U.answer graph.now plan.now (n + 1) state.new.made.items state.new.kept.items) }
+    requires step { slice_get plan.now.steps n ≡ Some step.now }
+    requires at { IsAt U.answer graph.now plan.now n state.old.live.items state.old.made.items state.old.kept.items }
+    ensures at { OnOk result (IsAt U.answer graph.now plan.now (n + 1) state.new.live.items state.new.made.items state.new.kept.items) }
     ensures ok { OnOk result (O.written out.new ≡ appended (O.written out.old) (step_text U.answer form graph.now plan.now n)) }
     ensures err { OnErr result (GrewByFront (O.written out.old) (O.written out.new) (step_text U.answer form graph.now plan.now n)) }
     ensures calls { OnOk result (U.calls updater.new ≤ U.calls updater.old + step_work U.answer graph.now plan.now n) }
@@ -370,22 +378,47 @@ pub(crate) fn execute<'g, O: Sink, U: Updater>(
 {
     match step {
         Step::Make { collection, count } => {
-            execute_make::<U>(alloc, plan, n, collection, count, state, graph)
+            execute_make::<U>(alloc, plan, n, *collection, *count, state, graph)
         }
         Step::Run { run } => execute_run(
-            alloc, plan, n, run, state, graph, form, turns, out, updater,
+            alloc, plan, n, *run, state, graph, form, turns, out, updater,
         ),
         Step::Append {
             collection,
             count,
             ..
         } => execute_append(
-            alloc, plan, n, collection, count, state, graph, form, turns, out, updater,
+            alloc,
+            plan,
+            n,
+            *collection,
+            *count,
+            state,
+            graph,
+            form,
+            turns,
+            out,
+            updater,
         ),
         Step::ShowOrder { collection } => {
-            show_order(alloc, plan, n, collection, state, graph, out)
+            show_order(alloc, plan, n, *collection, state, graph, out)
         }
-        Step::ShowWork { run } => show_work::<O, U>(alloc, plan, n, run, state, graph, out),
+        Step::ShowWork { run } => show_work::<O, U>(alloc, plan, n, *run, state, graph, out),
+        Step::ShowTree { collection } => show_tree(alloc, plan, n, *collection, state, graph, out),
+        Step::Insert { first, count } => execute_insert::<O, U>(
+            alloc, plan, n, *first, *count, state, graph, form, out, updater,
+        ),
+        Step::Remove { rule } => {
+            execute_remove::<O, U>(alloc, plan, n, rule, state, graph, form, out, updater)
+        }
+        Step::Aggregate {
+            collection,
+            by,
+            sum,
+        } => {
+            let grouping = Grouping { by: *by, sum: *sum };
+            aggregate(alloc, plan, n, *collection, grouping, state, graph, out)
+        }
         Step::Nothing => Ok(()),
     }
 }

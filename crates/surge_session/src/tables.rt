@@ -1,23 +1,22 @@
 //! The tables of several views.
 
-ghost use Rattle.std.specs.Prelude.{◌≡◌, ◌≤◌, OnOk, OnErr};
+ghost use Rattle.std.specs.Prelude.{◌≡◌, ◌≤◌, length, take, slice_range, OnOk, OnErr};
 ghost use Rattle.surge_outside.specs.Counts.{HasRisen};
 ghost use Rattle.surge_outside.specs.Written.{GrewByFront, appended};
-ghost use Rattle.view_order.specs.Greedy.{numbers};
 ghost use Rattle.surge_session.specs.Output.{tables_text};
-ghost use Rattle.surge_session.specs.State.{Shows, HasRun};
+ghost use Rattle.surge_session.specs.State.{Shows, ShowsLive, HasRunIn, rules_of, shown_graph};
 
+use crate::kept::RunEngine;
 use crate::view::write_view;
 use graph_model::{Graph, ViewNo};
-use gvdl_check::{RunPlan, ViewPlan};
+use gvdl_check::{CollectionPlan, RunPlan, ViewPlan};
 use result_tables::Form;
 use std::alloc::Global;
 use surge_outside::{Sink, Text, Trouble};
 use vertex_lang::Updater;
-use view_engine::Engine;
 use view_matrix::Matrix;
 
-/// Writes the tables of these views of the collection of this name, which an engine has run. In the matrix of the
+/// Writes the tables of these views of the collection of this name, which were run. In the matrix of the
 /// collection they stand from number `first` on.
 pub(crate) fn write_tables<O: Sink, U: Updater>(
     alloc: Global,
@@ -26,15 +25,15 @@ pub(crate) fn write_tables<O: Sink, U: Updater>(
     views: &[ViewPlan],
     matrix: &Matrix,
     first: u32,
-    engine: &Engine,
+    engine: &RunEngine,
     form: Form,
     graph: &Graph,
     out: &mut O,
 ) -> Result<(), Trouble>
-    requires shown { Shows graph.now matrix.now first views.now }
-    requires has { HasRun U.answer graph.now run.now matrix.now (numbers engine.now.order) engine.now }
-    ensures ok { OnOk result (O.written out.new ≡ appended (O.written out.old) (tables_text U.answer form graph.now run.now collection.now views.now)) }
-    ensures err { OnErr result (GrewByFront (O.written out.old) (O.written out.new) (tables_text U.answer form graph.now run.now collection.now views.now)) }
+    requires shown { Shows (shown_graph graph.now matrix.now) matrix.now first views.now }
+    requires has { HasRunIn U.answer graph.now run.now matrix.now engine.now }
+    ensures ok { OnOk result (O.written out.new ≡ appended (O.written out.old) (tables_text U.answer form (shown_graph graph.now matrix.now) run.now collection.now views.now)) }
+    ensures err { OnErr result (GrewByFront (O.written out.old) (O.written out.new) (tables_text U.answer form (shown_graph graph.now matrix.now) run.now collection.now views.now)) }
     ensures faults { O.faults out.old ≤ O.faults out.new }
     ensures failed { result ≡ Err Trouble.Failed → HasRisen (O.faults out.old) (O.faults out.new) }
 {
@@ -48,4 +47,54 @@ pub(crate) fn write_tables<O: Sink, U: Updater>(
         }
     }
     Ok(())
+}
+
+/// The views from one place up to another.
+pub(crate) fn views_between(views: &[ViewPlan], first: usize, end: usize) -> &[ViewPlan]
+    requires order { first ≤ end }
+    requires within { end ≤ length views.now }
+    ensures { result.now ≡ slice_range views.now first end }
+{
+    &views[first..end]
+}
+
+/// Writes the tables of the views that a matrix has from number `first` on.
+pub(crate) fn write_from<O: Sink, U: Updater>(
+    alloc: Global,
+    run: &RunPlan,
+    collection: &CollectionPlan,
+    matrix: &Matrix,
+    first: u32,
+    engine: &RunEngine,
+    form: Form,
+    graph: &Graph,
+    out: &mut O,
+) -> Result<(), Trouble>
+    requires live { length matrix.now.live ≡ length graph.now.ends }
+    requires first { first ≤ length matrix.now.columns }
+    requires within { length matrix.now.columns ≤ length collection.now.views }
+    requires shows { ShowsLive (shown_graph graph.now matrix.now) (rules_of (take (length matrix.now.columns) collection.now.views)) matrix.now }
+    requires has { HasRunIn U.answer graph.now run.now matrix.now engine.now }
+    ensures ok { OnOk result (O.written out.new ≡ appended (O.written out.old) (tables_text U.answer form (shown_graph graph.now matrix.now) run.now collection.now.name (slice_range collection.now.views first (length matrix.now.columns)))) }
+    ensures err { OnErr result (GrewByFront (O.written out.old) (O.written out.new) (tables_text U.answer form (shown_graph graph.now matrix.now) run.now collection.now.name (slice_range collection.now.views first (length matrix.now.columns)))) }
+    ensures faults { O.faults out.old ≤ O.faults out.new }
+    ensures failed { result ≡ Err Trouble.Failed → HasRisen (O.faults out.old) (O.faults out.new) }
+{
+    let views = views_between(
+        collection.views.as_slice(),
+        first as usize,
+        matrix.views() as usize,
+    );
+    write_tables::<O, U>(
+        alloc,
+        run,
+        &collection.name,
+        views,
+        matrix,
+        first,
+        engine,
+        form,
+        graph,
+        out,
+    )
 }

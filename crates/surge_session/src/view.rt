@@ -3,14 +3,14 @@
 ghost use Rattle.std.specs.Prelude.{◌≡◌, ◌<◌, ◌≤◌, length, IfOk, OnOk, OnErr};
 ghost use Rattle.surge_outside.specs.Counts.{HasRisen};
 ghost use Rattle.surge_outside.specs.Written.{GrewByFront, appended};
-ghost use Rattle.edge_predicates.specs.ViewEdges.{view_edges};
 ghost use Rattle.gvdl_printer.specs.Canonical.{canonical_call};
 ghost use Rattle.view_matrix.specs.Matrices.{edges_in};
-ghost use Rattle.view_order.specs.Greedy.{numbers};
 ghost use Rattle.result_tables.specs.TableText.{table_of, head_text};
 ghost use Rattle.surge_session.specs.Output.{view_answer, view_text};
-ghost use Rattle.surge_session.specs.State.{HasRun};
+ghost use Rattle.surge_session.specs.Live.{live_edges};
+ghost use Rattle.surge_session.specs.State.{HasRunIn, shown_graph};
 
+use crate::kept::RunEngine;
 use graph_model::{Graph, ViewNo};
 use gvdl_check::{RunPlan, ViewPlan};
 use gvdl_printer::print_call;
@@ -18,7 +18,6 @@ use result_tables::{Form, Table, head_text, write_table};
 use std::alloc::Global;
 use surge_outside::{NoMemory, Sink, Text, Trouble};
 use vertex_lang::Updater;
-use view_engine::Engine;
 use view_matrix::Matrix;
 
 /// What is written of a run on a view: what the table is of, how many edges the view has, and the table.
@@ -29,7 +28,7 @@ struct Answered {
     table: Table,
 }
 
-// What an engine that has run a view tells of it.
+// What is told of a view that was run.
 fn answer_view<U: Updater>(
     alloc: Global,
     run: &RunPlan,
@@ -37,20 +36,17 @@ fn answer_view<U: Updater>(
     view: &ViewPlan,
     matrix: &Matrix,
     number: ViewNo,
-    engine: &Engine,
+    engine: &RunEngine,
     graph: &Graph,
 ) -> Result<Answered, NoMemory>
     requires within { number.0 < length matrix.now.columns }
-    requires shown { edges_in matrix.now number.0 ≡ view_edges graph.now view.now.rule }
-    requires has { HasRun U.answer graph.now run.now matrix.now (numbers engine.now.order) engine.now }
+    requires shown { edges_in matrix.now number.0 ≡ live_edges (shown_graph graph.now matrix.now) view.now.rule }
+    requires has { HasRunIn U.answer graph.now run.now matrix.now engine.now }
     ensures head { IfOk result (λ a. a.head.items ≡ head_text collection.now view.now.name (canonical_call run.now.call)) }
-    ensures table { IfOk result (λ a. a.table ≡ table_of (view_answer U.answer graph.now run.now view.now.rule)) }
-    ensures edges { IfOk result (λ a. a.edges ≡ length (view_edges graph.now view.now.rule)) }
+    ensures table { IfOk result (λ a. a.table ≡ table_of (view_answer U.answer (shown_graph graph.now matrix.now) run.now view.now.rule)) }
+    ensures edges { IfOk result (λ a. a.edges ≡ length (live_edges (shown_graph graph.now matrix.now) view.now.rule)) }
 {
-    let table = match engine.result(number)? {
-        Some(table) => table,
-        None => return Err(NoMemory),
-    };
+    let table = engine.result::<U>(graph, run, matrix, &view.rule, number)?;
     let call = print_call(alloc, &run.call)?;
     let head = head_text(
         alloc,
@@ -73,16 +69,16 @@ pub(crate) fn write_view<O: Sink, U: Updater>(
     view: &ViewPlan,
     matrix: &Matrix,
     number: ViewNo,
-    engine: &Engine,
+    engine: &RunEngine,
     form: Form,
     graph: &Graph,
     out: &mut O,
 ) -> Result<(), Trouble>
     requires within { number.0 < length matrix.now.columns }
-    requires shown { edges_in matrix.now number.0 ≡ view_edges graph.now view.now.rule }
-    requires has { HasRun U.answer graph.now run.now matrix.now (numbers engine.now.order) engine.now }
-    ensures ok { OnOk result (O.written out.new ≡ appended (O.written out.old) (view_text U.answer form graph.now run.now collection.now view.now)) }
-    ensures err { OnErr result (GrewByFront (O.written out.old) (O.written out.new) (view_text U.answer form graph.now run.now collection.now view.now)) }
+    requires shown { edges_in matrix.now number.0 ≡ live_edges (shown_graph graph.now matrix.now) view.now.rule }
+    requires has { HasRunIn U.answer graph.now run.now matrix.now engine.now }
+    ensures ok { OnOk result (O.written out.new ≡ appended (O.written out.old) (view_text U.answer form (shown_graph graph.now matrix.now) run.now collection.now view.now)) }
+    ensures err { OnErr result (GrewByFront (O.written out.old) (O.written out.new) (view_text U.answer form (shown_graph graph.now matrix.now) run.now collection.now view.now)) }
     ensures faults { O.faults out.old ≤ O.faults out.new }
     ensures failed { result ≡ Err Trouble.Failed → HasRisen (O.faults out.old) (O.faults out.new) }
 {

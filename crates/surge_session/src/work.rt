@@ -1,17 +1,20 @@
 //! The text of the work of a run.
 
-ghost use Rattle.std.specs.Prelude.{◌≡◌, ◌<◌, ◌++◌, length, codes, All, IfOk, OnOk};
+ghost use Rattle.std.specs.Prelude.{◌≡◌, ◌<◌, ◌≤◌, ◌++◌, length, codes, All, IfOk, OnOk, OnErr};
 ghost use Rattle.std.specs.Fmt.{decimal};
 ghost use Rattle.result_tables.specs.TableText.{line_end};
 ghost use Rattle.view_order.specs.Greedy.{numbers};
 ghost use Rattle.view_segment.specs.Segments.{IsFinished};
 ghost use Rattle.view_engine.specs.Engines.{IsEngine, AreFinished, segments_in};
 ghost use Rattle.surge_session.specs.Output.{segment_lines};
-ghost use Rattle.surge_session.specs.WorkLines.{lines_of};
+ghost use Rattle.surge_outside.specs.Counts.{HasRisen};
+ghost use Rattle.surge_outside.specs.Written.{GrewByFront, appended};
+ghost use Rattle.surge_session.specs.WorkLines.{TellsWork, engine_text, lines_of};
 
+use crate::kept::RunEngine;
 use gvdl_check::ViewPlan;
 use std::alloc::Global;
-use surge_outside::NoMemory;
+use surge_outside::{NoMemory, Sink, Trouble, put_all};
 use view_engine::Engine;
 use view_segment::Segment;
 
@@ -74,8 +77,8 @@ fn push_segments(
     Ok(())
 }
 
-/// The text of the work of a run, of which these are the views of its collection, under this name.
-pub(crate) fn work_text(
+// The text of the work of a run, of which these are the views of its collection, under this name.
+fn work_text(
     alloc: Global,
     name: &str,
     views: &[ViewPlan],
@@ -90,4 +93,27 @@ pub(crate) fn work_text(
     push_segments(alloc, &mut text, views, engine)?;
     text.extend_from_slice(b"end\n")?;
     Ok(text)
+}
+
+/// Writes the text of the work of a run whose engine shares work, under this name. These are the views of its collection.
+pub(crate) fn write_work<O: Sink>(
+    alloc: Global,
+    name: &str,
+    views: &[ViewPlan],
+    engine: &RunEngine,
+    out: &mut O,
+) -> Result<(), Trouble>
+    requires { TellsWork views.now engine.now }
+    ensures ok { OnOk result (O.written out.new ≡ appended (O.written out.old) (engine_text name.now views.now engine.now)) }
+    ensures err { OnErr result (GrewByFront (O.written out.old) (O.written out.new) (engine_text name.now views.now engine.now)) }
+    ensures faults { O.faults out.old ≤ O.faults out.new }
+    ensures failed { result ≡ Err Trouble.Failed → HasRisen (O.faults out.old) (O.faults out.new) }
+{
+    match engine {
+        RunEngine::Plain(engine) => match work_text(alloc, name, views, engine) {
+            Ok(text) => put_all(out, text.as_slice()),
+            Err(NoMemory) => Err(Trouble::NoMemory),
+        },
+        _ => Ok(()),
+    }
 }

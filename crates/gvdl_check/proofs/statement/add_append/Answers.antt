@@ -2,7 +2,6 @@
 use Rattle.std.proofs.Common.{◌≡◌, ◌∙◌, List, length, sym, ap, arith, Ok}
 use Rattle.gvdl_check.specs.declared.plan.CollectionPlan.{CollectionPlan}
 use Rattle.gvdl_check.specs.declared.plan.Step.{Step}
-use Rattle.gvdl_check.specs.Known.{known_of}
 use Rattle.gvdl_check.specs.Singles.{rules_at}
 use Rattle.gvdl_check.specs.KnownLaws.{found_within}
 use Rattle.gvdl_check.proofs.AppendFacts.{appended, views_read, append_gives}
@@ -75,4 +74,4 @@ returns c =
     let all = views_read c.as_slice-3.result.now those place c.len.result c.index-as_slice-place-2.result c.as_slice-3.ensures more.within c.len.ensures in
     let same : rules ≡ rules_at k.singles base = cc (c.as_slice-2.ensures, c.in_ok-rules.ensures) in
     let gives = append_gives g k target items place base rules those c.len-first.result c.len.result c.in_ok-collection.ensures same c.in_ok-add_views.ensures first all in
-    gives ∙ ap (λ (steps : List Step). Ok (known_of k.names k.singles those k.runs steps)) (sym c.in_ok-push.ensures.ok)
+    gives ∙ ap (λ (steps : List Step). Ok (record k { collections = those; steps = steps })) (sym c.in_ok-push.ensures.ok)

@@ -58,18 +58,18 @@ returns-in-Ok-clause-asked g c =
     let between = g.F.NamedFiles.state c.fetch.new.files in
     let new = g.F.NamedFiles.state c.load_edges.new.files in
     let script = c.args.script.now in
-    let reached = ReachesData old.held script in
+    let reached = UpTo (ReachesData old.held script) role.Edges in
     let nodes : IsFetched old.held role.Nodes script.nodes c.in-Ok.nodes = subst (λ (name : List ℕ). IsFetched old.held role.Nodes name c.in-Ok.nodes) c.as_str.ensures c.in-Ok.ensures.said in
     let first : AsksNoOther script.nodes old between = subst (λ (name : List ℕ). AsksNoOther name old between) c.as_str.ensures c.fetch.ensures.asked in
-    asks_both reached old.asked between.asked new.asked (asks_file reached role.Nodes script.nodes refl old between first)
-    (asks_file reached role.Edges script.edges (c.in-Ok.nodes, nodes, refl) between new c.load_edges.ensures.asked)
+    asks_both reached old.asked between.asked new.asked (asks_file reached role.Nodes script.nodes (tt, refl) old between first)
+    (asks_file reached role.Edges script.edges (tt, (c.in-Ok.nodes, nodes, refl)) between new c.load_edges.ensures.asked)
 
 pub returns-in-Err-clause-asked : goal.returns-in-Err-clause-asked
 returns-in-Err-clause-asked g c =
     let old = g.F.NamedFiles.state c.args.files.now in
     let new = g.F.NamedFiles.state c.fetch.new.files in
     let script = c.args.script.now in
-    asks_file (ReachesData old.held script) role.Nodes script.nodes refl old new (subst (λ (name : List ℕ). AsksNoOther name old new) c.as_str.ensures c.fetch.ensures.asked)
+    asks_file (UpTo (ReachesData old.held script) role.Edges) role.Nodes script.nodes (tt, refl) old new (subst (λ (name : List ℕ). AsksNoOther name old new) c.as_str.ensures c.fetch.ensures.asked)
 
 pub returns-in-Ok-clause-once : goal.returns-in-Ok-clause-once
 returns-in-Ok-clause-once g c =

@@ -7,6 +7,7 @@ use Rattle.graph_model.specs.declared.number.ViewNo.{ViewNo}
 use Rattle.view_matrix.specs.Matrices.{distance_of, IsView}
 use Rattle.view_order.specs.Greedy.{greedy, numbers}
 use Rattle.view_order.specs.Places.{view}
+use Rattle.surge_session.specs.State.{shown_graph}
 use Rattle.surge_session.proofs.Ordering.{same_greedy, numbers_of}
 use Rattle.surge_session.proofs.order.greedy_order.Goals as goal
 
@@ -18,7 +19,7 @@ returns-clause-order c =
     let all : length m.columns - 0 ≡ length views = omega (arith, c.requires.all) in
     let ns : numbers c.as_slice.result.now ≡ range_with_len 0 (length views) =
     ap numbers declared ∙ numbers_of (range_with_len 0 (length m.columns - 0)) ∙ ap (λ (k : ℕ). range_with_len 0 k) all in
-    c.in_ok-order.ensures.order ∙ ap (λ (xs : List ℕ). greedy (distance_of m) None xs) ns ∙ same_greedy c.args.graph.now m views c.requires.shown c.requires.all (range_with_len 0 (length views))
+    c.in_ok-order.ensures.order ∙ ap (λ (xs : List ℕ). greedy (distance_of m) None xs) ns ∙ same_greedy (shown_graph c.args.graph.now m) m views c.requires.shown c.requires.all (range_with_len 0 (length views))
 
 pub returns-clause-views : goal.returns-clause-views
 returns-clause-views c =

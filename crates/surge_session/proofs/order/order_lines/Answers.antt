@@ -7,6 +7,8 @@ use Rattle.view_matrix.specs.Matrices.{place_of}
 use Rattle.view_order.specs.Greedy.{numbers}
 use Rattle.view_order.specs.Places.{view}
 use Rattle.surge_session.specs.Output.{difference, with_distances, order_line}
+use Rattle.surge_session.specs.Live.{LiveGraph}
+use Rattle.surge_session.specs.State.{shown_graph}
 use Rattle.surge_session.proofs.Ordering.{same_distance, distances-append, last-append, one_view_more, line_more, total_more}
 use Rattle.surge_session.proofs.Texts.{found}
 use Rattle.surge_session.proofs.order.order_lines.Goals as goal
@@ -21,12 +23,13 @@ loop-number-preserved c =
     let v : ViewNo = get_or order k (view 0) in
     let lt : k < length order = c.loop-number-test.true in
     let nums : List ℕ = numbers (take k order) in
-    let distance : Option ℕ → ℕ → ℕ = difference c.args.graph.now views in
+    let w : LiveGraph = shown_graph c.args.graph.now m in
+    let distance : Option ℕ → ℕ → ℕ = difference w views in
     let lines : List (ℕ × ℕ) = with_distances distance None nums in
     let more : numbers (take (k + 1) order) ≡ nums ++ v.0 ∷ [] = one_view_more order k (view 0) lt in
     let after : with_distances distance None (numbers (take (k + 1) order)) ≡ lines ++ (v.0, distance (last_or None nums) v.0) ∷ [] = ap (λ (ns : List ℕ). with_distances distance None ns) more ∙ distances-append distance None nums v.0 in
     let far : c.distance-distance.result ≡ distance (last_or None nums) v.0 =
-    c.distance-distance.ensures.value ∙ same_distance c.args.graph.now m views c.requires.shown c.requires.all (place_of c.loop-number.before) v.0 ∙ ap (λ (b : Option ℕ). distance b v.0) so_far.before in
+    c.distance-distance.ensures.value ∙ same_distance w m views c.requires.shown c.requires.all (place_of c.loop-number.before) v.0 ∙ ap (λ (b : Option ℕ). distance b v.0) so_far.before in
     let seen : v.0 < length m.columns = c.requires.views k (view 0) lt in
     let item = c.index-views-number.result in
     let at : slice_get views v.0 ≡ Some item = found views views v.0 item refl (omega (arith, seen, c.requires.all)) c.index-views-number.is in

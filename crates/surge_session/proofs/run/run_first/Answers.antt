@@ -1,21 +1,21 @@
--- Nothing is done before the first turn.
-use Rattle.std.proofs.Common.{◌≡◌, ◌≤◌, List, length, ap, arith}
+-- The views are run in their order.
+use Rattle.std.proofs.Common.{◌≡◌, ◌∙◌, ◌≤◌, List, length, sym, ap, subst, arith, All}
+use Rattle.std.proofs.lemmas.Result.{IfOk-weaker}
 use Rattle.graph_model.specs.declared.number.ViewNo.{ViewNo}
-use Rattle.view_engine.specs.declared.engine.Engine.{Engine}
-use Rattle.view_engine.specs.Engines.{segments_in}
-use Rattle.surge_session.proofs.Running.{nothing_done}
-use Rattle.surge_session.proofs.RunOrders.{first_calls}
+use Rattle.graph_model.specs.GraphData.{AreDistinct}
+use Rattle.view_matrix.specs.Matrices.{IsView}
+use Rattle.view_order.specs.Greedy.{numbers}
+use Rattle.surge_session.specs.declared.kept.RunEngine.{RunEngine}
 use Rattle.surge_session.proofs.run.run_first.Goals as goal
 
-pub new-requires-clause-few : goal.new-requires-clause-few
-new-requires-clause-few g c =
+pub run_views-requires-clause-few : goal.run_views-requires-clause-few
+run_views-requires-clause-few g c =
     omega (arith, ap (λ (vs : List ViewNo). length vs) c.as_slice.ensures, c.in_ok-order.ensures.count, c.views-all.ensures.count, c.views-all.ensures.limit)
 
-pub finish-requires-clause-stands : goal.finish-requires-clause-stands
-finish-requires-clause-stands g c = c.in_ok-engine.ensures.stands g.U.Updater.answer
+pub returns-clause-order : goal.returns-clause-order
+returns-clause-order g c =
+    IfOk-weaker c.run_views.result _ _ (λ (e : RunEngine) same. ap numbers (same ∙ c.as_slice.ensures) ∙ c.in_ok-order.ensures.order) c.run_views.ensures.order
 
-pub returns-clause-calls : goal.returns-clause-calls
-returns-clause-calls g c =
-    let same : segments_in c.rest.new.self ≡ segments_in c.finish.new.engine = ap (λ ss. ss.items) c.rest.ensures.segments in
-    first_calls c.in_ok-engine.engine c.finish.new.engine c.rest.new.self (g.U.Counted.calls c.args.updater.now) (g.U.Counted.calls c.finish.new.updater) c.in_ok-finish.ensures.calls
-    (nothing_done c.in_ok-engine.engine c.in_ok-engine.ensures.works) same
+pub returns-clause-count : goal.returns-clause-count
+returns-clause-count g c =
+    IfOk-weaker c.run_views.result _ _ (λ (e : RunEngine) same. ap (λ (vs : List ViewNo). length vs) (same ∙ c.as_slice.ensures) ∙ c.in_ok-order.ensures.count) c.run_views.ensures.order

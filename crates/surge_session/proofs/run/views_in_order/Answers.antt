@@ -67,3 +67,38 @@ returns-in-Greedy-clause-count c =
     let count : length c.as_slice.result.now ≡ left = ap (λ (vs : List ViewNo). length vs) (c.as_slice.ensures ∙ c.in_ok-declared.ensures.views) ∙ length-map-range_with_len view c.args.first left in
     IfOk-weaker c.greedy.result (IsPermutation c.as_slice.result.now) (λ order. length order ≡ left)
     (λ order p. length_permutation c.as_slice.result.now order p ∙ count) c.greedy.ensures.each
+
+pub returns-in-Tree-clause-order : goal.returns-in-Tree-clause-order
+returns-in-Tree-clause-order c =
+    let m = c.args.matrix.now in
+    let range = range_with_len c.args.first (length m.columns - c.args.first) in
+    let before = place_of c.args.before in
+    let ns : numbers c.as_slice-in-Tree.result.now ≡ range = ap numbers (c.as_slice-in-Tree.ensures ∙ c.in_ok-declared.ensures.views) ∙ numbers_of range in
+    IfOk-weaker c.greedy-in-Tree.result (λ order. numbers order ≡ greedy (distance_of m) before (numbers c.as_slice-in-Tree.result.now)) (λ order. numbers order ≡ in_order c.args.rule (distance_of m) before range)
+    (λ order e. e ∙ ap (λ (xs : List ℕ). greedy (distance_of m) before xs) ns ∙ sym (ap (λ (r : OrderRule). in_order r (distance_of m) before range) c.in-Tree.is)) c.greedy-in-Tree.ensures.order
+
+pub returns-in-Tree-clause-views : goal.returns-in-Tree-clause-views
+returns-in-Tree-clause-views c =
+    let P : ViewNo → Type 0 = IsView c.args.matrix.now in
+    IfOk-weaker c.greedy-in-Tree.result (IsPermutation c.as_slice-in-Tree.result.now) (All P)
+    (λ order p. All-permutation P c.as_slice-in-Tree.result.now order p (subst (λ (vs : List ViewNo). All P vs) (sym c.as_slice-in-Tree.ensures) c.in_ok-declared.ensures.within)) c.greedy-in-Tree.ensures.each
+
+pub returns-in-Tree-clause-distinct : goal.returns-in-Tree-clause-distinct
+returns-in-Tree-clause-distinct c =
+    IfOk-weaker c.greedy-in-Tree.result (IsPermutation c.as_slice-in-Tree.result.now) (λ order. AreDistinct order)
+    (λ order p. distinct_permuted c.as_slice-in-Tree.result.now order p (subst (λ (vs : List ViewNo). AreDistinct vs) (sym c.as_slice-in-Tree.ensures) c.in_ok-declared.ensures.distinct)) c.greedy-in-Tree.ensures.each
+
+pub returns-in-Tree-clause-behind : goal.returns-in-Tree-clause-behind
+returns-in-Tree-clause-behind c =
+    let first = c.args.first in
+    let left = length c.args.matrix.now.columns - first in
+    let P : ViewNo → Type 0 = λ v. first ≤ v.0 in
+    IfOk-weaker c.greedy-in-Tree.result (IsPermutation c.as_slice-in-Tree.result.now) (All P)
+    (λ order p. All-permutation P c.as_slice-in-Tree.result.now order p (subst (λ (vs : List ViewNo). All P vs) (sym (c.as_slice-in-Tree.ensures ∙ c.in_ok-declared.ensures.views)) (behind_all first first left (omega arith)))) c.greedy-in-Tree.ensures.each
+
+pub returns-in-Tree-clause-count : goal.returns-in-Tree-clause-count
+returns-in-Tree-clause-count c =
+    let left = length c.args.matrix.now.columns - c.args.first in
+    let count : length c.as_slice-in-Tree.result.now ≡ left = ap (λ (vs : List ViewNo). length vs) (c.as_slice-in-Tree.ensures ∙ c.in_ok-declared.ensures.views) ∙ length-map-range_with_len view c.args.first left in
+    IfOk-weaker c.greedy-in-Tree.result (IsPermutation c.as_slice-in-Tree.result.now) (λ order. length order ≡ left)
+    (λ order p. length_permutation c.as_slice-in-Tree.result.now order p ∙ count) c.greedy-in-Tree.ensures.each

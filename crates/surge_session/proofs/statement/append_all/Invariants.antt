@@ -2,7 +2,9 @@ use Rattle.std.proofs.Common.{◌≡◌, ◌+◌, ◌<◌, ◌≤◌, ℕ, Some,
 use Rattle.std.specs.Prelude.{sum_by}
 use Rattle.surge_outside.specs.Written.{appended}
 use Rattle.surge_session.specs.declared.kept.Kept.{Kept}
-use Rattle.surge_session.specs.Output.{made_at, kept_text, added_work}
+use Rattle.surge_session.specs.Live.{graph_at}
+use Rattle.surge_session.specs.Output.{made_at, kept_text}
+use Rattle.surge_session.specs.Works.{added_work}
 use Rattle.surge_session.specs.State.{IsKept, places_of}
 use Rattle.surge_session.proofs.statement.append_all.Given as goal
 
@@ -12,7 +14,7 @@ invariant-loop-i g l = record {
   done : (j : ℕ) (k : Kept) → j < l.i → slice_get l.kept j ≡ Some k → IsKept g.U.Updater.answer l.graph l.plan (l.n + 1) l.made k;
   left : (j : ℕ) (k : Kept) → l.i ≤ j → slice_get l.kept j ≡ Some k → IsKept g.U.Updater.answer l.graph l.plan l.n l.made k;
   places : places_of l.kept ≡ places_of l.fn.kept;
-  written : g.O.Sink.written l.out ≡ appended (g.O.Sink.written l.fn.out) (flat_map (kept_text g.U.Updater.answer l.form l.graph l.plan l.collection.name (slice_range l.collection.views l.first (length (made_at l.plan (l.n + 1) l.place))) l.place) (take l.i (places_of l.fn.kept)));
+  written : g.O.Sink.written l.out ≡ appended (g.O.Sink.written l.fn.out) (flat_map (kept_text g.U.Updater.answer l.form (graph_at l.graph l.plan (l.n + 1)) l.plan l.collection.name (slice_range l.collection.views l.first (length (made_at l.plan (l.n + 1) l.place))) l.place) (take l.i (places_of l.fn.kept)));
   calls : g.U.Counted.calls l.updater ≤ g.U.Counted.calls l.fn.updater + sum_by (added_work g.U.Updater.answer l.graph l.plan l.n l.place) (take l.i (places_of l.fn.kept));
   faults : g.O.Sink.faults l.fn.out ≤ g.O.Sink.faults l.out;
 }

@@ -8,8 +8,10 @@ use Rattle.gvdl_check.specs.declared.plan.ViewPlan.{ViewPlan}
 use Rattle.gvdl_check.specs.declared.plan.Step.TheVariants as step
 use Rattle.view_matrix.specs.Matrices.{MatrixData}
 use Rattle.surge_session.specs.declared.kept.Kept.{Kept}
+use Rattle.surge_session.specs.Live.{graph_at}
 use Rattle.surge_session.specs.Output.{made_at, views_added, kept_at, kept_text, append_text}
 use Rattle.surge_session.specs.State.{IsKept, IsAt, places_of}
+use Rattle.surge_session.proofs.LiveFacts.{live_passed, graph_passed}
 use Rattle.surge_session.proofs.Places.{views_more, kept_same, added_is}
 use Rattle.surge_session.proofs.Stating.{step_fits, both_ok, came_back}
 use Rattle.surge_session.proofs.Texts.{found, append_with}
@@ -17,6 +19,9 @@ use Rattle.surge_session.proofs.statement.execute_append.Goals as goal
 
 pub grow-requires-clause-views : goal.grow-requires-clause-views
 grow-requires-clause-views g c = λ other. views_more c.args.plan.now c.args.n other (step.Append c.args.place c.requires.step.0 c.args.count) c.requires.step.1
+
+pub grow-requires-clause-same : goal.grow-requires-clause-same
+grow-requires-clause-same g c = graph_passed c.args.graph.now c.args.plan.now c.args.n (step.Append c.args.place c.requires.step.0 c.args.count) c.requires.step.1 refl
 
 pub append_all-requires-clause-collection : goal.append_all-requires-clause-collection
 append_all-requires-clause-collection g c =
@@ -48,7 +53,8 @@ returns-in-Ok-clause-at g c =
     let before : places_of new ≡ places_of old.items = places ∙ ap places_of c.deref_mut.ensures.value in
     let same : length new ≡ length old.items = omega (arith, ap (λ (ns : List ℕ). length ns) before, length-map new (λ (k : Kept). k.place), length-map old.items (λ (k : Kept). k.place)) in
     let back = came_back new old.items old.len same (omega arith) in
-    subst (λ (items : List Kept). IsAt answer graph p (n + 1) made items) (sym back) (record {
+    subst (λ (items : List Kept). IsAt answer graph p (n + 1) c.grow.new.self.live.items made items) (sym back) (record {
+      live = ap (λ v. v.items) c.grow.ensures.live ∙ c.requires.at.live ∙ sym (live_passed graph p n s c.requires.step.1 refl);
       matrices = c.in-Ok.ensures.matrices;
       places = before ∙ ap (λ v. places_of v.items) c.grow.ensures.kept ∙ c.requires.at.places ∙ sym (kept_same p n s c.requires.step.1 refl);
       each = subst (λ (ms : List MatrixData). All (IsKept answer graph p (n + 1) ms) new) c.deref.ensures.value kept;
@@ -70,8 +76,8 @@ returns-in-Ok-clause-ok g c =
     let added : slice_range collection.views c.views-first.result (length (made_at p (n + 1) place)) ≡ views_added p n collection place =
     ap (λ (k : ℕ). slice_range collection.views k (length (made_at p (n + 1) place))) c.views-first.ensures ∙ added_is p n place collection at (omega (arith, views_more p n place s c.requires.step.1)) in
     let kept : places_of c.deref_mut.result.now ≡ kept_at p n = ap places_of c.deref_mut.ensures.value ∙ ap (λ v. places_of v.items) c.grow.ensures.kept ∙ c.requires.at.places in
-    let text : flat_map (kept_text answer form graph p collection.name (slice_range collection.views c.views-first.result (length (made_at p (n + 1) place))) place) (places_of c.deref_mut.result.now) ≡ append_text answer form graph p n place =
-    ap₂ (λ (vs : List ViewPlan) (ks : List ℕ). flat_map (kept_text answer form graph p collection.name vs place) ks) added kept ∙ sym (append_with answer form graph p n place (Some collection) at) in
+    let text : flat_map (kept_text answer form (graph_at graph p (n + 1)) p collection.name (slice_range collection.views c.views-first.result (length (made_at p (n + 1) place))) place) (places_of c.deref_mut.result.now) ≡ append_text answer form graph p n place =
+    ap₂ (λ (vs : List ViewPlan) (ks : List ℕ). flat_map (kept_text answer form (graph_at graph p (n + 1)) p collection.name vs place) ks) added kept ∙ sym (append_with answer form graph p n place (Some collection) at) in
     subst (λ (t : List ℕ). OnOk c.append_all.result (g.O.Sink.written c.append_all.new.out ≡ appended (g.O.Sink.written c.args.out.now) t)) text c.append_all.ensures.ok
 
 pub returns-in-Ok-clause-err : goal.returns-in-Ok-clause-err
@@ -89,6 +95,6 @@ returns-in-Ok-clause-err g c =
     let added : slice_range collection.views c.views-first.result (length (made_at p (n + 1) place)) ≡ views_added p n collection place =
     ap (λ (k : ℕ). slice_range collection.views k (length (made_at p (n + 1) place))) c.views-first.ensures ∙ added_is p n place collection at (omega (arith, views_more p n place s c.requires.step.1)) in
     let kept : places_of c.deref_mut.result.now ≡ kept_at p n = ap places_of c.deref_mut.ensures.value ∙ ap (λ v. places_of v.items) c.grow.ensures.kept ∙ c.requires.at.places in
-    let text : flat_map (kept_text answer form graph p collection.name (slice_range collection.views c.views-first.result (length (made_at p (n + 1) place))) place) (places_of c.deref_mut.result.now) ≡ append_text answer form graph p n place =
-    ap₂ (λ (vs : List ViewPlan) (ks : List ℕ). flat_map (kept_text answer form graph p collection.name vs place) ks) added kept ∙ sym (append_with answer form graph p n place (Some collection) at) in
+    let text : flat_map (kept_text answer form (graph_at graph p (n + 1)) p collection.name (slice_range collection.views c.views-first.result (length (made_at p (n + 1) place))) place) (places_of c.deref_mut.result.now) ≡ append_text answer form graph p n place =
+    ap₂ (λ (vs : List ViewPlan) (ks : List ℕ). flat_map (kept_text answer form (graph_at graph p (n + 1)) p collection.name vs place) ks) added kept ∙ sym (append_with answer form graph p n place (Some collection) at) in
     subst (λ (t : List ℕ). OnErr c.append_all.result (GrewByFront (g.O.Sink.written c.args.out.now) (g.O.Sink.written c.append_all.new.out) t)) text c.append_all.ensures.err

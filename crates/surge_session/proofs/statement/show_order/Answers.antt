@@ -1,10 +1,14 @@
 -- The views are those that the collection has by then.
-use Rattle.std.proofs.Common.{◌≡◌, ◌∙◌, ℕ, List, Some, None, slice_get, slice_range, length, refl, sym, ap, subst, arith}
+use Rattle.std.proofs.Common.{◌≡◌, ◌∙◌, ◌+◌, ℕ, List, Some, None, slice_get, slice_range, length, refl, sym, ap, subst, arith}
 use Rattle.std.specs.Prelude.{OnOk, OnErr}
 use Rattle.std.proofs.lemmas.Option.{slice_get_within}
 use Rattle.surge_outside.specs.Written.{appended, GrewByFront}
 use Rattle.gvdl_check.specs.declared.plan.ViewPlan.{ViewPlan}
-use Rattle.surge_session.specs.Output.{views_before, order_text, shown_text}
+use Rattle.gvdl_check.specs.declared.plan.Step.TheVariants as step
+use Rattle.surge_session.specs.Live.{LiveGraph, graph_at}
+use Rattle.surge_session.specs.State.{Shows, rules_of, shown_graph}
+use Rattle.surge_session.specs.Output.{views_before, made_at, order_text, shown_text}
+use Rattle.surge_session.proofs.LiveFacts.{shown_is, graph_passed}
 use Rattle.surge_session.proofs.Places.{seen, shown_all, all_columns, columns_within}
 use Rattle.surge_session.proofs.Texts.{found, missing, shown_with}
 use Rattle.surge_session.proofs.Written.{nothing_written}
@@ -35,7 +39,8 @@ write_order-requires-clause-shown g c =
     let is : c.views_between-views.result.now ≡ views_before p c.args.n collection place =
     c.views_between-views.ensures ∙ ap (λ (vs : List ViewPlan). slice_range vs 0 c.views.result) c.as_slice-in-Some.ensures ∙ ap (λ (k : ℕ). slice_range collection.views 0 k) c.views.ensures.count
     ∙ seen graph p c.args.n place collection s.made.items m at c.requires.at m_at in
-    shown_all graph p c.args.n place collection s.made.items m at c.requires.at m_at c.views_between-views.result.now is
+    let here : shown_graph graph m ≡ graph_at graph p c.args.n = shown_is (graph_at graph p c.args.n) (rules_of (made_at p c.args.n place)) m (c.requires.at.shows place m m_at) in
+    subst (λ (w : LiveGraph). Shows w m 0 c.views_between-views.result.now) (sym here) (shown_all graph p c.args.n place collection s.made.items m at c.requires.at m_at c.views_between-views.result.now is)
 
 pub write_order-requires-clause-all : goal.write_order-requires-clause-all
 write_order-requires-clause-all g c =
@@ -65,8 +70,11 @@ returns-in-Some-clause-ok g c =
     let is : c.views_between-views.result.now ≡ views_before p c.args.n collection place =
     c.views_between-views.ensures ∙ ap (λ (vs : List ViewPlan). slice_range vs 0 c.views.result) c.as_slice-in-Some.ensures ∙ ap (λ (k : ℕ). slice_range collection.views 0 k) c.views.ensures.count
     ∙ seen graph p c.args.n place collection s.made.items m at c.requires.at m_at in
-    let text : order_text graph collection.name c.views_between-views.result.now ≡ shown_text graph p c.args.n place =
-    ap (λ (vs : List ViewPlan). order_text graph collection.name vs) is ∙ sym (shown_with graph p c.args.n place (Some collection) at) in
+    let here : shown_graph graph m ≡ graph_at graph p c.args.n = shown_is (graph_at graph p c.args.n) (rules_of (made_at p c.args.n place)) m (c.requires.at.shows place m m_at) in
+    let then : graph_at graph p (c.args.n + 1) ≡ graph_at graph p c.args.n = graph_passed graph p c.args.n (step.ShowOrder place) c.requires.step refl in
+    let text : order_text (shown_graph graph m) collection.name c.views_between-views.result.now ≡ shown_text graph p c.args.n place =
+    ap (λ (vs : List ViewPlan). order_text (shown_graph graph m) collection.name vs) is ∙ ap (λ (w : LiveGraph). order_text w collection.name (views_before p c.args.n collection place)) (here ∙ sym then)
+    ∙ sym (shown_with graph p c.args.n place (Some collection) at) in
     subst (λ (bytes : List ℕ). OnOk c.write_order.result (g.O.Sink.written c.write_order.new.out ≡ appended (g.O.Sink.written c.args.out.now) bytes)) text c.write_order.ensures.ok
 
 pub returns-in-Some-clause-err : goal.returns-in-Some-clause-err
@@ -82,8 +90,11 @@ returns-in-Some-clause-err g c =
     let is : c.views_between-views.result.now ≡ views_before p c.args.n collection place =
     c.views_between-views.ensures ∙ ap (λ (vs : List ViewPlan). slice_range vs 0 c.views.result) c.as_slice-in-Some.ensures ∙ ap (λ (k : ℕ). slice_range collection.views 0 k) c.views.ensures.count
     ∙ seen graph p c.args.n place collection s.made.items m at c.requires.at m_at in
-    let text : order_text graph collection.name c.views_between-views.result.now ≡ shown_text graph p c.args.n place =
-    ap (λ (vs : List ViewPlan). order_text graph collection.name vs) is ∙ sym (shown_with graph p c.args.n place (Some collection) at) in
+    let here : shown_graph graph m ≡ graph_at graph p c.args.n = shown_is (graph_at graph p c.args.n) (rules_of (made_at p c.args.n place)) m (c.requires.at.shows place m m_at) in
+    let then : graph_at graph p (c.args.n + 1) ≡ graph_at graph p c.args.n = graph_passed graph p c.args.n (step.ShowOrder place) c.requires.step refl in
+    let text : order_text (shown_graph graph m) collection.name c.views_between-views.result.now ≡ shown_text graph p c.args.n place =
+    ap (λ (vs : List ViewPlan). order_text (shown_graph graph m) collection.name vs) is ∙ ap (λ (w : LiveGraph). order_text w collection.name (views_before p c.args.n collection place)) (here ∙ sym then)
+    ∙ sym (shown_with graph p c.args.n place (Some collection) at) in
     subst (λ (bytes : List ℕ). OnErr c.write_order.result (GrewByFront (g.O.Sink.written c.args.out.now) (g.O.Sink.written c.write_order.new.out) bytes)) text c.write_order.ensures.err
 
 pub returns-in-None-clause-ok : goal.returns-in-None-clause-ok

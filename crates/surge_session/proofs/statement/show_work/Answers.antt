@@ -3,17 +3,17 @@ use Rattle.std.proofs.Common.{◌≡◌, ◌≢◌, ◌∙◌, ◌<◌, ℕ, Lis
 use Rattle.std.specs.Prelude.{OnOk, OnErr}
 use Rattle.surge_outside.specs.Written.{appended, GrewByFront}
 use Rattle.std.proofs.lemmas.Option.{slice_get_within}
-use Rattle.graph_model.specs.declared.number.ViewNo.{ViewNo}
 use Rattle.gvdl_check.specs.declared.plan.CollectionPlan.{CollectionPlan}
 use Rattle.gvdl_check.specs.declared.plan.ViewPlan.{ViewPlan}
 use Rattle.gvdl_check.specs.declared.plan.Step.TheVariants as step
 use Rattle.surge_session.specs.Output.{made_at, kept_at, work_text}
 use Rattle.surge_session.specs.State.{IsKept}
+use Rattle.surge_session.specs.WorkLines.{engine_text}
 use Rattle.surge_session.proofs.Keeping.{is_kept}
 use Rattle.surge_session.proofs.Lending.{got_all}
 use Rattle.surge_session.proofs.Places.{made_with, seen, columns_within}
-use Rattle.surge_session.proofs.Running.{in_segments}
-use Rattle.surge_session.proofs.Stating.{step_fits, run_here, its_collection, matrix_here, places_all, no_work, below_first, has_here, work_shown}
+use Rattle.surge_session.proofs.Showing.{tells, text_shown}
+use Rattle.surge_session.proofs.Stating.{step_fits, run_here, its_collection, matrix_here, places_all, no_work}
 use Rattle.surge_session.proofs.Texts.{found}
 use Rattle.surge_session.proofs.Written.{nothing_written}
 use Rattle.surge_session.proofs.statement.show_work.Goals as goal
@@ -37,8 +37,8 @@ views_between-views-requires-clause-within g c =
     let m_at : slice_get made run.collection ≡ Some m = matrix_here graph p n made c.requires.at.matrices run.collection m lt c.index-matrix.ensures in
     omega (arith, c.views.ensures.count, columns_within graph p n run.collection collection made m c_at c.requires.at.matrices m_at, ap (λ (x : List ViewPlan). length x) c.as_slice-in-Some-Some-2.ensures)
 
-pub work_text-requires-clause-views : goal.work_text-requires-clause-views
-work_text-requires-clause-views g c =
+pub write_work-requires : goal.write_work-requires
+write_work-requires g c =
     let answer = g.U.Updater.answer in
     let graph = c.args.graph.now in
     let p = c.args.plan.now in
@@ -59,17 +59,15 @@ work_text-requires-clause-views g c =
     let k_at : slice_get all c.in-Some-Some.i ≡ Some k = found all all c.in-Some-Some.i k refl there.0 c.index.ensures in
     let kept : IsKept answer graph p n made k = got_all (IsKept answer graph p n made) all c.requires.at.each c.in-Some-Some.i k k_at in
     let same : k.place ≡ place = there.1 k k_at in
+    let its_step : slice_get p.steps n ≡ Some (step.ShowWork k.place) = c.requires.step ∙ ap (λ (other : ℕ). Some (step.ShowWork other)) (sym same) in
     let its_run_at : slice_get p.runs k.place ≡ Some run = ap (slice_get p.runs) same ∙ run_at in
     let views : c.views_between-views.result.now ≡ made_at p n run.collection =
     c.views_between-views.ensures ∙ ap (λ (vs : List ViewPlan). slice_range vs 0 c.views.result) c.as_slice-in-Some-Some-2.ensures ∙ ap (λ (j : ℕ). slice_range collection.views 0 j) c.views.ensures.count
     ∙ seen graph p n run.collection collection made m c_at c.requires.at.matrices m_at ∙ sym (made_with p n run.collection (Some collection) c_at) in
-    let here = has_here answer graph p n made k run kept its_run_at m m_at in
-    let below : All (λ (v : ViewNo). v.0 < length c.views_between-views.result.now) k.engine.order =
-    subst (λ (vs : List ViewPlan). All (λ (v : ViewNo). v.0 < length vs) k.engine.order) (sym views) (below_first answer graph p n made k run kept its_run_at m m_at) in
-    in_segments (λ (v : ViewNo). v.0 < length c.views_between-views.result.now) k.engine here.is.engine.assigned_views below
+    tells answer graph p n made k run kept its_run_at c.requires.fits its_step m m_at c.views_between-views.result.now views
 
-pub returns-in-Ok-clause-ok : goal.returns-in-Ok-clause-ok
-returns-in-Ok-clause-ok g c =
+pub returns-in-Some-Some-clause-ok : goal.returns-in-Some-Some-clause-ok
+returns-in-Some-Some-clause-ok g c =
     let answer = g.U.Updater.answer in
     let graph = c.args.graph.now in
     let p = c.args.plan.now in
@@ -90,18 +88,18 @@ returns-in-Ok-clause-ok g c =
     let k_at : slice_get all c.in-Some-Some.i ≡ Some k = found all all c.in-Some-Some.i k refl there.0 c.index.ensures in
     let kept : IsKept answer graph p n made k = got_all (IsKept answer graph p n made) all c.requires.at.each c.in-Some-Some.i k k_at in
     let same : k.place ≡ place = there.1 k k_at in
+    let its_step : slice_get p.steps n ≡ Some (step.ShowWork k.place) = c.requires.step ∙ ap (λ (other : ℕ). Some (step.ShowWork other)) (sym same) in
     let its_run_at : slice_get p.runs k.place ≡ Some run = ap (slice_get p.runs) same ∙ run_at in
     let views : c.views_between-views.result.now ≡ made_at p n run.collection =
     c.views_between-views.ensures ∙ ap (λ (vs : List ViewPlan). slice_range vs 0 c.views.result) c.as_slice-in-Some-Some-2.ensures ∙ ap (λ (j : ℕ). slice_range collection.views 0 j) c.views.ensures.count
     ∙ seen graph p n run.collection collection made m c_at c.requires.at.matrices m_at ∙ sym (made_with p n run.collection (Some collection) c_at) in
-    let text : c.as_slice-in-Ok.result.now ≡ work_text answer graph p n place =
-    c.as_slice-in-Ok.ensures.value ∙ c.in-Ok.ensures
-    ∙ work_shown answer graph p n made k run kept its_run_at m m_at c.requires.at.matrices c.as_str.result.now c.views_between-views.result.now (c.in-Some-Some.is-0 ∙ ap Some (sym c.as_str.ensures)) views
+    let text : engine_text c.as_str.result.now c.views_between-views.result.now k.engine ≡ work_text answer graph p n place =
+    text_shown answer graph p n made k run kept its_run_at c.requires.fits its_step m m_at c.views_between-views.result.now views c.requires.at.matrices c.as_str.result.now (c.in-Some-Some.is-0 ∙ ap Some (sym c.as_str.ensures))
     ∙ ap (work_text answer graph p n) same in
-    subst (λ (t : List ℕ). OnOk c.put_all.result (g.O.Sink.written c.put_all.new.sink ≡ appended (g.O.Sink.written c.args.out.now) t)) text c.put_all.ensures.all
+    subst (λ (t : List ℕ). OnOk c.write_work.result (g.O.Sink.written c.write_work.new.out ≡ appended (g.O.Sink.written c.args.out.now) t)) text c.write_work.ensures.ok
 
-pub returns-in-Ok-clause-err : goal.returns-in-Ok-clause-err
-returns-in-Ok-clause-err g c =
+pub returns-in-Some-Some-clause-err : goal.returns-in-Some-Some-clause-err
+returns-in-Some-Some-clause-err g c =
     let answer = g.U.Updater.answer in
     let graph = c.args.graph.now in
     let p = c.args.plan.now in
@@ -122,15 +120,15 @@ returns-in-Ok-clause-err g c =
     let k_at : slice_get all c.in-Some-Some.i ≡ Some k = found all all c.in-Some-Some.i k refl there.0 c.index.ensures in
     let kept : IsKept answer graph p n made k = got_all (IsKept answer graph p n made) all c.requires.at.each c.in-Some-Some.i k k_at in
     let same : k.place ≡ place = there.1 k k_at in
+    let its_step : slice_get p.steps n ≡ Some (step.ShowWork k.place) = c.requires.step ∙ ap (λ (other : ℕ). Some (step.ShowWork other)) (sym same) in
     let its_run_at : slice_get p.runs k.place ≡ Some run = ap (slice_get p.runs) same ∙ run_at in
     let views : c.views_between-views.result.now ≡ made_at p n run.collection =
     c.views_between-views.ensures ∙ ap (λ (vs : List ViewPlan). slice_range vs 0 c.views.result) c.as_slice-in-Some-Some-2.ensures ∙ ap (λ (j : ℕ). slice_range collection.views 0 j) c.views.ensures.count
     ∙ seen graph p n run.collection collection made m c_at c.requires.at.matrices m_at ∙ sym (made_with p n run.collection (Some collection) c_at) in
-    let text : c.as_slice-in-Ok.result.now ≡ work_text answer graph p n place =
-    c.as_slice-in-Ok.ensures.value ∙ c.in-Ok.ensures
-    ∙ work_shown answer graph p n made k run kept its_run_at m m_at c.requires.at.matrices c.as_str.result.now c.views_between-views.result.now (c.in-Some-Some.is-0 ∙ ap Some (sym c.as_str.ensures)) views
+    let text : engine_text c.as_str.result.now c.views_between-views.result.now k.engine ≡ work_text answer graph p n place =
+    text_shown answer graph p n made k run kept its_run_at c.requires.fits its_step m m_at c.views_between-views.result.now views c.requires.at.matrices c.as_str.result.now (c.in-Some-Some.is-0 ∙ ap Some (sym c.as_str.ensures))
     ∙ ap (work_text answer graph p n) same in
-    subst (λ (t : List ℕ). OnErr c.put_all.result (GrewByFront (g.O.Sink.written c.args.out.now) (g.O.Sink.written c.put_all.new.sink) t)) text c.put_all.ensures.front
+    subst (λ (t : List ℕ). OnErr c.write_work.result (GrewByFront (g.O.Sink.written c.args.out.now) (g.O.Sink.written c.write_work.new.out) t)) text c.write_work.ensures.err
 
 pub returns-in_default-clause-ok : goal.returns-in_default-clause-ok
 returns-in_default-clause-ok g c =

@@ -1,10 +1,11 @@
 use Rattle.std.proofs.Common.{◌≡◌, ◌≤◌, flat_map, take}
 use Rattle.surge_outside.specs.Written.{appended}
 use Rattle.surge_session.specs.Output.{view_text}
+use Rattle.surge_session.specs.State.{shown_graph}
 use Rattle.surge_session.proofs.tables.write_tables.Given as goal
 
 abbrev pub invariant-loop-i : goal.invariant-loop-i
 invariant-loop-i g l = record {
-  written : g.O.Sink.written l.out ≡ appended (g.O.Sink.written l.fn.out) (flat_map (view_text g.U.Updater.answer l.form l.graph l.run l.collection) (take l.i l.views));
+  written : g.O.Sink.written l.out ≡ appended (g.O.Sink.written l.fn.out) (flat_map (view_text g.U.Updater.answer l.form (shown_graph l.graph l.matrix) l.run l.collection) (take l.i l.views));
   faults : g.O.Sink.faults l.fn.out ≤ g.O.Sink.faults l.out;
 }
