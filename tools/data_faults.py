@@ -133,9 +133,9 @@ def found_record(path, number):
     return None
 
 
-def of_data(which, number, column, fault, nodes, edges):
-    """The finding of a fault that `surge` tells of a data file, `which` being nodes or edges, from the two paths."""
-    path = nodes if which == "nodes" else edges
+def of_data(which, number, column, fault, script):
+    """The finding of a fault that `surge` tells of a data file of a script, `which` being nodes, edges or insert with its statement."""
+    path, nodes = script.file_of(which), script.nodes
     record = found_record(path, number) if number else None
     if record is None:
         return Finding(path, None, 0, of_file(fault, path, which))
@@ -144,7 +144,10 @@ def of_data(which, number, column, fault, nodes, edges):
         "BadHeader": of_header, "TooManyColumns": of_header_width, "WrongWidth": of_width, "NotUtf8": of_bytes, "BadId": of_id,
         "RepeatedId": of_repeated, "UnknownNode": of_unknown, "BadCell": of_cell, "NoHeader": of_no_header,
     }.get(fault)  # fmt: skip
-    told = judge(record, column, which, path, header, nodes) if judge else of_file(fault, path, which)
+    if fault == "BadHeader" and which.startswith("insert"):
+        told = of_other_header(record, column, script.edges)
+    else:
+        told = judge(record, column, which, path, header, nodes) if judge else of_file(fault, path, which)
     if fault != "UnknownNode" and record.first < record.last:
         told.append(over_lines(path, record))
     return Finding(path, record, column, told)
@@ -159,7 +162,7 @@ def of_file(fault, path, which):
     return {
         "NoHeader": ["There is no record in the file: its first line is a header, " + ("id" if which == "nodes" else "src,dst") + "."],
         "TooManyNodes": ["A graph has at most 1,000,000 nodes."],
-        "TooManyEdges": ["A graph has at most 4,000,000 edges."],
+        "TooManyEdges": ["A graph has at most 4,000,000 edges, those of inserted files and removed ones counted."],
         "TooLarge": ["A data file has at most 268,435,456 bytes (2^28)."],
     }.get(fault, [])
 
@@ -215,6 +218,17 @@ def of_header(record, column, which, path, header, nodes):
     if [one for one, _ in header].count(name) > 1:
         return [f"There are two properties `{name}`: names stand once in a file."]
     return [f"`{name}` is no name: it has a byte below 32, or the byte 127."]
+
+
+def of_other_header(record, column, edges):
+    """The header of an inserted file where it isn't that of the edges file."""
+    wanted = next((list(map(utf8, other.fields)) for other in records_of(edges)), [])
+    told = f"The header of an inserted file is that of the edges file {edges}: {','.join(wanted)}."
+    if column > len(record.fields):
+        return [f"`{wanted[column - 1]}` is missing behind the last field.", told]
+    if column > len(wanted):
+        return [f"`{cell_of(record, column)}` is a field too many.", told]
+    return [f"`{wanted[column - 1]}` is wanted here, and not `{cell_of(record, column)}`.", told]
 
 
 def kinds_told():

@@ -30,10 +30,9 @@ from reading import told
 
 OF_TEXT = re.compile(r"surge: script: line (\d+) column (\d+): (\w+)")
 OF_STATEMENT = re.compile(r"surge: script: statement (\d+): (\w+)")
-NOT_BUILT = re.compile(r"surge: not built: statement (\d+)")
-OF_DATA = re.compile(r"surge: data: (nodes|edges) record (\d+) column (\d+): (\w+)")
+OF_DATA = re.compile(r"surge: data: (nodes|edges|insert \d+) record (\d+) column (\d+): (\w+)")
 OF_SCRIPT = re.compile(r"surge: script: (\w+)")
-ABSENT = re.compile(r"surge: absent: (script|nodes|edges)")
+ABSENT = re.compile(r"surge: absent: (script|nodes|edges|insert \d+)")
 
 # How much of a line is shown on each side of the place, and how many edges are read for what is no fault.
 SIDE = 60
@@ -98,8 +97,9 @@ def tell_data(finding):
 
 def tell_absent(what, path, script):
     """A file that isn't there."""
-    named = path if what == "script" else getattr(script, what)
-    print(f"The {what + ' file' if what != 'script' else 'script'} {named} is not there.")
+    named = path if what == "script" else script.file_of(what)
+    inserted = f"file {named}, which statement {what.split()[-1]} inserts," if what.startswith("insert") else f"{what} file {named}"
+    print(f"The {f'script {named}' if what == 'script' else inserted} is not there.")
     near = data_faults.beside(named)
     if near:
         print(near)
@@ -112,7 +112,7 @@ def tell_absent(what, path, script):
 
 def tell_unread(path, script):
     """A file that can't be read."""
-    for what, named in (("script", path), ("nodes file", script and script.nodes), ("edges file", script and script.edges)):
+    for what, named in (("script", path), *(script.data_files() if script else ())):
         if named is None:
             continue
         if os.path.isdir(named):
@@ -124,7 +124,7 @@ def tell_unread(path, script):
         if os.path.exists(named) and not os.access(named, os.R_OK):
             print(f"The {what} {named} may not be read by this user.")
             return
-    print("A file can't be read: the script, the nodes file or the edges file.")
+    print("A file can't be read: the script, the nodes file, the edges file or one that is inserted.")
 
 
 def hardly_meant(path, text, script):
@@ -216,7 +216,7 @@ def explain(program, path):
         return False
     print(answer)
     of_text, of_statement, of_data = OF_TEXT.fullmatch(answer), OF_STATEMENT.fullmatch(answer), OF_DATA.fullmatch(answer)
-    of_script, absent, not_built = OF_SCRIPT.fullmatch(answer), ABSENT.fullmatch(answer), NOT_BUILT.fullmatch(answer)
+    of_script, absent = OF_SCRIPT.fullmatch(answer), ABSENT.fullmatch(answer)
     if of_text:
         tell_script(path, text, script_faults.of_text(text, of_text[3], int(of_text[1]), int(of_text[2])))
     elif of_statement:
@@ -224,12 +224,8 @@ def explain(program, path):
         finding = script_faults.of_statement(text, of_statement[2], int(of_statement[1]), nodes, edges)
         if finding:
             tell_script(path, text, finding)
-    elif not_built:
-        finding = script_faults.not_built(text, int(not_built[1]))
-        if finding:
-            tell_script(path, text, finding)
     elif of_data:
-        tell_data(data_faults.of_data(of_data[1], int(of_data[2]), int(of_data[3]), of_data[4], script.nodes, script.edges))
+        tell_data(data_faults.of_data(of_data[1], int(of_data[2]), int(of_data[3]), of_data[4], script))
     elif of_script:
         tell_whole(of_script[1], path)
     elif absent:

@@ -136,8 +136,25 @@ class Script:
         self.kept = {}
         # The names of the programs and of the single views.
         self.programs, self.views = [], []
-        for statement in statements_of(tokens_of(text)):
+        # The files whose edges are inserted, by the numbers of their statements. (The form is no statement.)
+        self.inserts = {}
+        statements = statements_of(tokens_of(text))
+        begun = 0 if statements and statements[0][0].text == "form" else 1
+        for number, statement in enumerate(statements, begun):
             self.take(statement)
+            if [token.text for token in statement[:2]] == ["insert", "edges"] and len(statement) > 2:
+                self.inserts[number] = statement[2].value
+
+    def file_of(self, which):
+        """The name of a data file, as `surge` tells of it: nodes, edges or insert 5."""
+        return self.inserts.get(int(which.split()[1])) if which.startswith("insert") else getattr(self, which)
+
+    def data_files(self):
+        """What the data files are, and their names, in the order in which they are read."""
+        yield "nodes file", self.nodes
+        yield "edges file", self.edges
+        for name in self.inserts.values():
+            yield "inserted file", name
 
     def take(self, statement):
         words = [token.text for token in statement]

@@ -15,19 +15,34 @@ from gvdl import script_of
 # COLLECTION.VIEW, the call in its canonical form, and how the run of the view ended; with the mode `summary` what the table holds.
 HEAD = re.compile(
     r"view (?P<collection>[A-Za-z_][\w-]*)\.(?P<view>[A-Za-z_][\w-]*) (?P<program>.+?) "
-    r"(?P<outcome>settled [0-9]+|after [0-9]+|unsettled)"
+    r"(?P<outcome>settled [0-9]+|after [0-9]+|phases [0-9]+|unsettled)"
     r"(?P<summary> edges (?P<edges>[0-9]+)(?: values (?P<values>[0-9]+) sum (?P<sum>-?[0-9]+))?)?",
     re.ASCII,
 )
 ORDER = re.compile(r"order (?P<name>[A-Za-z_][\w-]*) (?P<total>[0-9]+)", re.ASCII)
 WORK = re.compile(r"work (?P<name>[A-Za-z_][\w-]*)", re.ASCII)
+TREE = re.compile(r"tree (?P<name>[A-Za-z_][\w-]*) (?P<total>[0-9]+) (?P<length>[0-9]+)", re.ASCII)
+PROPERTY = r'[A-Za-z_][\w-]*|"(?:[^"]|"")+"'
+GROUPS = re.compile(
+    rf"aggregate (?P<name>[A-Za-z_][\w-]*)\.(?P<view>[A-Za-z_][\w-]*) by (?P<by>{PROPERTY})(?: sum (?P<added>{PROPERTY}))?", re.ASCII
+)
+HEADS = (("order", ORDER), ("work", WORK), ("tree", TREE), ("aggregate", GROUPS))
+CELL = "-|-?[0-9]+|true|false|'(?:[^']|'')*'"
 ROWS = {
     "table": re.compile(r"([0-9]+),(-|-?[0-9]+)", re.ASCII),
     "order": re.compile(r"([A-Za-z_][\w-]*) ([0-9]+)", re.ASCII),
     "work": re.compile(r"([A-Za-z_][\w-]*) ([0-9]+) ([0-9]+)", re.ASCII),
+    "tree": re.compile(r"([A-Za-z_][\w-]*) (-|[A-Za-z_][\w-]*) ([0-9]+)", re.ASCII),
+    "aggregate": re.compile(rf"({CELL}),({CELL}),([0-9]+)(?:,(-?[0-9]+))?", re.ASCII),
 }
-WRITTEN_BY = {"summary": "the mode summary", "order": "show order", "work": "show work"}
-FORMS = {"table": "id,value", "order": "VIEW EDGES", "work": "VIEW SEGMENT WORK"}
+WRITTEN_BY = {"summary": "the mode summary", "order": "show order", "work": "show work", "tree": "show tree", "aggregate": "aggregate"}
+FORMS = {
+    "table": "id,value",
+    "order": "VIEW EDGES",
+    "work": "VIEW SEGMENT WORK",
+    "tree": "VIEW PARENT EDGES",
+    "aggregate": "GROUP,GROUP,EDGES or GROUP,GROUP,EDGES,SUM",
+}
 
 # A field may be as long as a file that surge reads.
 csv.field_size_limit(2**28)
@@ -64,28 +79,38 @@ def lines_of(file, name):
         raise BadLine(f"{name}: what gzip made is cut short or damaged") from None
 
 
+def bare_name(property):
+    """A property's name without its quotes."""
+    return property[1:-1].replace('""', '"') if property.startswith('"') else property
+
+
 class Part:
     """One of the things that `surge` prints. Its kind is one of
     table    a view's table: collection, view, position, program, outcome; rows of (id, value), the value None for none
     summary  a line in place of one: the same, edges, and values and sum (None where it is unsettled); no rows
     order    what `show order` prints: name (of the collection), total; rows of (view, edges)
     work     what `show work` prints: name (of the kept run); rows of (view, segment, work)
+    tree     what `show tree` prints: name (of the collection), total, length; rows of (view, parent or None, edges)
+    aggregate  what an aggregate prints of a view: name (of the collection), view, by, added (the properties of the groups and of the sum,
+             None without one); rows of (group, group, edges, sum or None), a group None where it is absent
     The position is the view's place in its collection, from 1. Rows come once, and before the next part is asked for.
     """
 
     def __init__(self, kind, place, head):
         self.kind, self.place = kind, place
         self.collection = self.view = self.program = self.outcome = self.position = self.name = None
-        self.edges = self.values = self.sum = self.total = None
+        self.edges = self.values = self.sum = self.total = self.length = self.by = self.added = None
         for key, value in head.groupdict().items():
             if key != "summary":
-                is_number = key in ("edges", "values", "sum", "total") and value is not None
-                setattr(self, key, int(value) if is_number else value)
+                is_number = key in ("edges", "values", "sum", "total", "length") and value is not None
+                is_property = key in ("by", "added") and value is not None
+                setattr(self, key, int(value) if is_number else bare_name(value) if is_property else value)
         self.rows = iter(())
 
     @property
     def title(self):
-        return self.name if self.collection is None else f"{self.collection}.{self.view}"
+        names = (self.collection or self.name, self.view)
+        return ".".join(name for name in names if name is not None)
 
 
 def part_at(place, line):
@@ -93,19 +118,45 @@ def part_at(place, line):
     head = HEAD.fullmatch(line)
     if head:
         return Part("summary" if head["summary"] else "table", place, head)
-    for kind, form in (("order", ORDER), ("work", WORK)):
+    for kind, form in HEADS:
         head = form.fullmatch(line)
         if head:
             return Part(kind, place, head)
     raise BadLine(f"{place}: {line!r} is no head of a table, as 'view C.v hops(1) settled 2'")
 
 
+def whole(line, lines):
+    """A line, and with it those over which a text in it goes on."""
+    while line.count("'") % 2:
+        _, more = next(lines, (None, None))
+        if more is None:
+            break
+        line += more
+    return line
+
+
+def group_of(cell):
+    """A group: None where it is absent, else as it is printed, and a text without its quotes."""
+    if cell == "-":
+        return None
+    return cell[1:-1].replace("''", "'") if cell.startswith("'") else cell
+
+
+def cells_of(row):
+    """The cells of a row that is none of a table: numbers as such, None for no parent, an absent group and no sum."""
+    if row.re is ROWS["tree"]:
+        return (row[1], None if row[2] == "-" else row[2], int(row[3]))
+    if row.re is ROWS["aggregate"]:
+        return (group_of(row[1]), group_of(row[2]), int(row[3]), row[4] and int(row[4]))
+    return (row[1], *map(int, row.groups()[1:]))
+
+
 def rows_of(part, lines, name):
     """The rows of a part, up to its `end`. Those of a table stand by rising id."""
-    is_table = part.kind == "table"
+    is_table, has_texts = part.kind == "table", part.kind == "aggregate"
     form, last = ROWS[part.kind], -1
     for number, line in lines:
-        line = line.rstrip("\n")
+        line = (whole(line, lines) if has_texts else line).rstrip("\n")
         if line == "end":
             return
         row = form.fullmatch(line)
@@ -119,7 +170,7 @@ def rows_of(part, lines, name):
             last = node
             yield node, None if value == "-" else int(value)
         else:
-            yield (row[1], *map(int, row.groups()[1:]))
+            yield cells_of(row)
     raise BadLine(f"{name}: the text ends inside what began at {part.place.rpartition(', ')[2]}")
 
 

@@ -377,17 +377,13 @@ def numbered(text):
     return statements[1:] if statements and statements[0][0].text == "form" else statements
 
 
-def not_built(text, number):
-    """The finding of a statement that `surge` doesn't execute yet."""
-    statements = numbered(text)
-    return at(statements[number - 1][0], "What only form 2 has is read, but it is not executed yet.") if number <= len(statements) else None
-
-
 def of_statement(text, fault, number, nodes, edges):
     """The finding of a fault that `surge` tells with a statement: nodes and edges are the kinds of the columns, by name."""
     statements = numbered(text)
     if number > len(statements):
         return None
+    if fault == "WorkEdited":
+        return at(statements[number - 1][0], "Edges come or go behind this run: only of a run that is kept behind the last insert and removal the work is shown.")
     if fault == "NeedsForm":
         return at(statements[number - 1][0], "Only form 2 of the language has this statement: such a script begins with `form 2;`, before its load.")
     known = Known()

@@ -4,7 +4,8 @@
 Long, as it is without options: a row for each node of each view, with the columns
   collection,view,position,program,outcome,id,value
 The position is the view's place in its collection, from 1. A value that is none is an empty field; a view that is
-unsettled has one row, without id and value. The outcome is as surge prints it: 'settled 2', 'after 10' or 'unsettled'.
+unsettled has one row, without id and value. The outcome is as surge prints it: 'settled 2', 'after 10', 'phases 3' or
+'unsettled'. Where edges come or go, a kept run's views have their rows once more for each insert and removal.
 Rows are written as they are read: where a line is bad, those before it stand already, and the status is 1.
 
   --nodes FILE    behind the id what the node is called: the column 'name' of the nodes file, or that of --label
@@ -13,6 +14,8 @@ Rows are written as they are read: where a line is bad, those before it stand al
                   COLLECTION.FROM-TO; where several programs were run, one has to be chosen by --program
   --show order    what 'show order' printed, as collection,step,view,difference
   --show work     what 'show work' printed, as run,step,view,segment,work
+  --show tree     what 'show tree' printed, as collection,step,view,parent,difference
+  --show aggregate  what aggregates printed, as collection,view,by,added,source,destination,edges,sum
 
 What the mode 'summary' prints becomes collection,view,position,program,outcome,edges,values,sum.
 
@@ -202,34 +205,54 @@ def position_of(part, windows):
     return part.position if windows is None else windows.position(part.collection, part.view)
 
 
+# The columns of what a statement shows: those before the places of views, and those behind them.
+SHOWN = {
+    "order": (("collection", "step", "view"), ("difference",)),
+    "work": (("run", "step", "view"), ("segment", "work")),
+    "tree": (("collection", "step", "view"), ("parent", "difference")),
+    "aggregate": (("collection", "view"), ("by", "added", "source", "destination", "edges", "sum")),
+}
+
+
+def shown_rows(part):
+    """The rows of what a statement shows, each cut before the places of views: the cells before them, and those behind."""
+    for step, row in enumerate(part.rows, 1):
+        if part.kind == "aggregate":
+            yield (part.name, part.view), (part.by, part.added, *row)
+        else:
+            yield (part.name, step, row[0]), row[1:]
+
+
+def collection_of(part, windows):
+    """The collection of what a statement shows, by the script where it is a kept run's."""
+    collection = windows.collection_of(part.name) if part.kind == "work" else part.name
+    if collection is None:
+        raise BadLine(f"the script {windows.path} keeps no run as {part.name}: is it another script's output?")
+    return collection
+
+
 def write_shown(kind, files, out, windows):
-    """What `show order` or `show work` printed."""
+    """What a show or an aggregate printed."""
     kinds, begun = {}, False
+    first, last = SHOWN[kind]
+    told_of = [] if windows is None else [*(["collection"] if kind == "work" else []), *view_columns(windows)]
     for part in parts_of(files):
         kinds[part.kind] = None
         if part.kind != kind:
             continue
         if not begun:
             begun = True
-            first, last = (("collection",), ("difference",)) if kind == "order" else (("run",), ("segment", "work"))
-            told_of = [] if windows is None else view_columns(windows)
-            if windows is not None and kind == "work":
-                told_of.insert(0, "collection")
-            out.write(line_of([*first, "step", "view", *told_of, *last]) + "\n")
-        collection = part.name
-        if windows is not None and kind == "work":
-            collection = windows.collection_of(part.name)
-            if collection is None:
-                raise BadLine(f"the script {windows.path} keeps no run as {part.name}: is it another script's output?")
-        for step, row in enumerate(part.rows, 1):
-            place = [] if windows is None else of_view(windows, collection, row[0], None)
+            out.write(line_of([*first, *told_of, *last]) + "\n")
+        collection = None if windows is None else collection_of(part, windows)
+        for before, behind in shown_rows(part):
+            place = [] if windows is None else of_view(windows, collection, before[-1], None)
             if windows is not None and kind == "work":
                 place.insert(0, collection)
-            out.write(line_of([part.name, step, row[0], *place, *row[1:]]) + "\n")
+            out.write(line_of([*before, *place, *behind]) + "\n")
     if not begun:
         there = {"table": "tables", **WRITTEN_BY}
         found = f", but {' and '.join(there[kind] for kind in kinds)}" if kinds else ": it is empty"
-        raise BadLine(f"there is nothing that 'show {kind}' prints in what was read{found}")
+        raise BadLine(f"there is nothing that '{WRITTEN_BY[kind]}' prints in what was read{found}")
 
 
 def words():
@@ -243,7 +266,7 @@ def words():
     parser.add_argument("--nodes", metavar="FILE", help="the nodes file: its names stand behind the ids")
     parser.add_argument("--label", metavar="COLUMN", help="the column of --nodes that has the names (name)")
     parser.add_argument("--script", metavar="FILE", help="the script that was run: it tells the windows of the views")
-    parser.add_argument("--show", choices=["order", "work"], help="what this statement printed, in place of tables")
+    parser.add_argument("--show", choices=list(SHOWN), help="what this statement printed, in place of tables")
     asked = parser.parse_args()
     if asked.label is not None and asked.nodes is None:
         parser.error("--label names a column of --nodes, which is not given")

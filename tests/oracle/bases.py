@@ -9,8 +9,8 @@ import random_scripts
 TOP = os.path.join(os.path.dirname(os.path.abspath(__file__)), "..", "..")
 MOST_BYTES = 6000
 
-# The script names the files n.csv and e.csv.
-Base = namedtuple("Base", "script nodes edges")
+# The script names the files n.csv and e.csv, and those that it inserts by the names under which they stand in `more`.
+Base = namedtuple("Base", "script nodes edges more", defaults=({},))
 
 LOAD = "load graph G nodes 'n.csv' edges 'e.csv';\n"
 NODE_COLUMNS = ("name:str", "rank:int", "on:bool", '"or:int"', "travel time:str", "h-1:int")
@@ -40,6 +40,9 @@ class Drawn:
         self.programs = ["hops", "dist", "wcc", "pagerank"]
         self.kept = []
         self.parameters = {}
+        # (the files that a script of form 2 inserts, by name)
+        self.is_second = draw.randint(0, 1) == 1
+        self.more = {}
 
     # Data files
 
@@ -180,7 +183,7 @@ class Drawn:
     def run(self):
         draw = self.draw
         text = f"run {self.call()} on {draw.choice(self.collections)} {draw.choice(['within', 'for'])} {draw.randint(1, 6)} rounds"
-        text += draw.choice(["", " order greedy", " order declared"])
+        text += draw.choice(["", " order greedy", " order declared", *([" order tree"] if self.is_second else [])])
         text += draw.choice(["", " split none", f" split every {draw.randint(1, 3)}", " split auto"])
         if draw.randint(0, 1):
             name = f"K{len(self.kept)}"
@@ -197,12 +200,37 @@ class Drawn:
             return f"show work {self.draw.choice(self.kept)};"
         return f"show order {self.draw.choice(self.collections)};"
 
+    def insert(self):
+        name = f"i{len(self.more)}.csv"
+        self.more[name] = self.edges().encode()
+        return f"insert edges '{name}';"
+
+    def remove(self):
+        return f"remove edges where {self.predicate()};"
+
+    def aggregate(self):
+        by, summed = self.property("node"), self.property("edge", "int")
+        if by is None:
+            return self.remove()
+        more = f" sum {summed}" if summed and self.draw.randint(0, 1) else ""
+        return f"aggregate {self.draw.choice(self.collections)} group by {by}{more};"
+
+    def show_tree(self):
+        return f"show tree {self.draw.choice(self.collections)};"
+
+    def phased(self):
+        phases = f"within {self.draw.randint(1, 4)} rounds phases {self.draw.randint(1, 3)}"
+        return f"run {self.call()} on {self.draw.choice(self.collections)} {phases};"
+
     def script(self):
         draw = self.draw
-        made = [self.load(), *(self.view() for _ in range(draw.randint(0, 2))), self.collection()]
+        form = ["form 2;"] if self.is_second else draw.choice([[], [], ["form 1;"]])
+        made = [*form, self.load(), *(self.view() for _ in range(draw.randint(0, 2))), self.collection()]
         made += [self.program() for _ in range(draw.randint(0, 2))]
-        for _ in range(draw.randint(1, 5)):
-            forms = [self.view, self.collection, self.program, self.run, self.run, self.run, self.append, self.show, self.show]
+        forms = [self.view, self.collection, self.program, self.run, self.run, self.run, self.append, self.show, self.show]
+        if self.is_second:
+            forms += [self.run, self.insert, self.insert, self.remove, self.remove, self.aggregate, self.show_tree, self.phased]
+        for _ in range(draw.randint(1, 8 if self.is_second else 5)):
             made.append(draw.choice(forms)())
         return draw.choice(["\n", "\n", "\n", " ", "\r\n", "\n# a comment\n"]).join(made) + draw.choice(["\n", "\n", "", " # no more"])
 
@@ -210,10 +238,20 @@ class Drawn:
 def drawn(draw):
     """A base that is drawn."""
     if draw.randint(0, 3) == 0:
-        nodes, edges = random_scripts.graph(draw)
-        return Base(random_scripts.script(draw).encode(), nodes.encode(), edges.encode())
+        ids, nodes = random_scripts.graph(draw)
+        edges = random_scripts.edges(draw, ids, 12)
+        script, more = either_script(draw, ids, 4)
+        return Base(script, nodes.encode(), edges.encode(), more)
     made = Drawn(draw)
-    return Base(made.script().encode(), made.nodes().encode(), made.edges().encode())
+    return Base(made.script().encode(), made.nodes().encode(), made.edges().encode(), made.more)
+
+
+def either_script(draw, ids, most):
+    """A script of one of the forms, and the files that it inserts, of at most so many edges."""
+    if draw.randint(0, 1):
+        return random_scripts.script(draw).encode(), {}
+    more = {f"i{place}.csv": random_scripts.edges(draw, ids, most).encode() for place in range(draw.randint(0, 3))}
+    return random_scripts.second_script(draw, list(more)).encode(), more
 
 
 def large(draw):
@@ -227,8 +265,9 @@ def large(draw):
         f"{draw.choice(ids)},{draw.choice(ids)},{draw.choice(['', '0', '1', '2', '3'])},{draw.randint(0, 3)}\n"
         for _ in range(draw.choice([0, 1, 500, 511, 512, 513, 514, 700, 1023, 1024, 1025, 1100]))
     ]
-    nodes = "id\n" + "".join(f"{it}\n" for it in ids)
-    return Base(random_scripts.script(draw).encode(), nodes.encode(), ("src,dst,w:int,y:int\n" + "".join(edges)).encode())
+    nodes = "id,g:int,t:str,b:bool\n" + "".join(f"{it},{draw.randint(0, 2)},{draw.choice('ab')},true\n" for it in ids)
+    script, more = either_script(draw, ids, 600)
+    return Base(script, nodes.encode(), ("src,dst,w:int,y:int\n" + "".join(edges)).encode(), more)
 
 
 # ---- What lies in the repository
@@ -249,7 +288,13 @@ def with_files(script, folder):
         return None
     for name, path in zip((b"n.csv", b"e.csv"), load.groups()):
         script = script.replace(b"'" + path + b"'", b"'" + name + b"'", 1)
-    return Base(script, *map(read, paths))
+    more = {}
+    for path in re.findall(rb"insert edges '([^']+)'", script):
+        if os.path.isfile(os.path.join(folder, path.decode())):
+            name = f"i{len(more)}.csv"
+            more[name] = read(os.path.join(folder, path.decode()))
+            script = script.replace(b"insert edges '" + path + b"'", b"insert edges '" + name.encode() + b"'", 1)
+    return Base(script, *map(read, paths), more)
 
 
 def whole_runs():
@@ -281,7 +326,7 @@ def rows_of_files():
 
 def written_down():
     """All bases of the repository that are small."""
-    return [it for it in [*whole_runs(), *rows_of_files()] if it and max(map(len, it)) <= MOST_BYTES]
+    return [it for it in [*whole_runs(), *rows_of_files()] if it and max(map(len, it[:3])) <= MOST_BYTES]
 
 
 def answered_statements():

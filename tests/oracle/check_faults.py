@@ -10,6 +10,7 @@ Fault = namedtuple("Fault", "kind statement")
 BUILT_IN = {"hops": ("number",), "dist": ("number", "property"), "wcc": (), "pagerank": ()}
 MOST_VIEWS = 1024
 MOST_ROUNDS = 1_000_000
+MOST_PHASES = 1_000
 MOST_KEPT = 64
 # What the parts of a program may name, beside numbers, none and parameters.
 OF_PART = {
@@ -31,14 +32,17 @@ def want(holds, kind):
 class Check:
     """What is known behind the statements so far. node_kinds and edge_kinds give the kind of each property."""
 
-    def __init__(self, form, node_kinds, edge_kinds):
+    def __init__(self, form, last_edit, node_kinds, edge_kinds):
         self.form = form
+        # (the number of the last statement by which edges come or go)
+        self.last_edit = last_edit
         self.kinds = {"edge": edge_kinds, "src": node_kinds, "dst": node_kinds, "node": node_kinds}
         # (each name with what it stands for: a call of a program wants these arguments, a collection has these views)
         self.programs = dict(BUILT_IN)
         self.bases = set()
         self.collections = {}
-        self.kept = set()
+        # (each kept run with the number of its statement)
+        self.kept = {}
 
     def want_free(self, name):
         taken = (self.programs, self.bases, self.collections, self.kept)
@@ -48,10 +52,9 @@ class Check:
         self.want_free(name)
         self.bases.add(name)
 
-    def statement(self, it):
+    def statement(self, it, number):
         if needs_second(it):
             want(self.form == 2, "NeedsForm")
-            want(False, "NotBuilt")
         if isinstance(it, View):
             self.want_free(it.name)
             want(it.base in self.bases, "UnknownName")
@@ -64,14 +67,22 @@ class Check:
         elif isinstance(it, Program):
             self.program(it)
         elif isinstance(it, Run):
-            self.run(it)
+            self.run(it, number)
         elif isinstance(it, Append):
             want(it.target in self.collections, "UnknownName")
             self.collections[it.target] = self.with_items(self.collections[it.target], it.items)
-        elif isinstance(it, ShowOrder):
+        elif isinstance(it, (ShowOrder, ShowTree)):
             want(it.name in self.collections, "UnknownName")
         elif isinstance(it, ShowWork):
             want(it.name in self.kept, "UnknownName")
+            want(self.kept[it.name] > self.last_edit, "WorkEdited")
+        elif isinstance(it, Remove):
+            self.predicate(it.rule)
+        elif isinstance(it, Aggregate):
+            want(it.target in self.collections, "UnknownName")
+            want(it.by in self.kinds["node"], "UnknownProperty")
+            if it.sum is not None:
+                self.want_int("edge", it.sum)
 
     # Views
 
@@ -149,16 +160,17 @@ class Check:
 
     # Runs
 
-    def run(self, it):
+    def run(self, it, number):
         want(it.call.name in self.programs, "UnknownName")
         want(it.target in self.collections, "UnknownName")
         self.arguments(self.programs[it.call.name], it.call.arguments)
         want(1 <= it.rounds <= MOST_ROUNDS, "BadRounds")
+        want(it.phases is None or 1 <= it.phases <= MOST_PHASES, "BadRounds")
         want(it.split != 0, "BadSplit")
         if it.keep is not None:
             self.want_free(it.keep)
             want(len(self.kept) < MOST_KEPT, "TooManyKept")
-            self.kept.add(it.keep)
+            self.kept[it.keep] = number
 
     def arguments(self, wanted, given):
         want(len(given) == len(wanted), "WrongArguments")
@@ -194,13 +206,14 @@ def first_fault(script, node_kinds, edge_kinds):
     """The first fault, or None. The load is statement 1; a bad form is the fault of no statement, and so of statement 0."""
     if script.form not in (None, 1, 2):
         return Fault("BadForm", 0)
-    check = Check(script.form, node_kinds, edge_kinds)
+    last_edit = max((number for number, it in enumerate(script.statements, 2) if isinstance(it, (Insert, Remove))), default=0)
+    check = Check(script.form, last_edit, node_kinds, edge_kinds)
     number = 1
     try:
         check.load(script.graph)
         for statement in script.statements:
             number += 1
-            check.statement(statement)
+            check.statement(statement, number)
     except Wrong as wrong:
         return Fault(wrong.args[0], number)
     return None

@@ -13,6 +13,7 @@ MOST_BYTES = 2**28
 MOST_PROPERTIES = 16
 MOST_RECORDS = {"nodes": (1_000_000, "TooManyNodes"), "edges": (4_000_000, "TooManyEdges")}
 KEYS = {"nodes": (b"id",), "edges": (b"src", b"dst")}
+MOST_EDGES, TOO_MANY_EDGES = MOST_RECORDS["edges"]
 MOST = 2**63 - 1
 
 # A field: perhaps a part in quotes, which the end of the file closes too, and then all before the next comma or line end.
@@ -140,6 +141,39 @@ def columns_of(file, records):
         name: [cell(kind, text_of(fields[keys + place])) for fields in records[1:]]
         for place, (name, kind) in enumerate(kinds_of(file, records).items())
     }
+
+
+def insert_fault(file, records, header, ids, before):
+    """The first fault of a file of further edges, whose header has to be that of the edges file; so many edges come before."""
+    if not records:
+        return Fault(file, 1, 0, "NoHeader")
+    # (all fields are compared, also one that is no text)
+    own = records[0]
+    column = next((it for it in range(max(len(own), len(header))) if own[it : it + 1] != header[it : it + 1]), None)
+    if column is not None:
+        return Fault(file, 1, column + 1, "BadHeader")
+    kinds = list(kinds_of("edges", records).values())
+    for number, fields in enumerate(records[1:], 2):
+        if before + number - 1 > MOST_EDGES:
+            return Fault(file, number, 0, TOO_MANY_EDGES)
+        fault = record_fault("edges", fields, kinds, ids)
+        if fault:
+            return Fault(file, number, *fault)
+    return None
+
+
+def extended(made, edges, file, data):
+    """What was loaded with the edges of a further file of these bytes, or its first fault; edges are the bytes of the edges file."""
+    graph = made.graph
+    ids = {node_id: place for place, node_id in enumerate(graph.ids)}
+    records = records_of(data)
+    fault = insert_fault(file, records, records_of(edges)[0], ids, len(graph.ends))
+    if fault:
+        return fault
+    ends = [(ids[int(it[0])], ids[int(it[1])]) for it in records[1:]]
+    more = columns_of("edges", records)
+    cells = {name: column + more[name] for name, column in graph.edge_cells.items()}
+    return made._replace(graph=Graph(graph.ids, graph.node_cells, graph.ends + ends, cells, [*graph.groups, len(ends)]))
 
 
 def loaded(nodes, edges):

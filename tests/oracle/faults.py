@@ -18,7 +18,7 @@ import printing
 import script_faults
 from oracle import Oracle
 from sample import SCRIPT, write_sample
-from script import script_of
+from script import Insert, script_of
 
 Answer = namedtuple("Answer", "status out err")
 Asked = namedtuple("Asked", "script sample mode turns")
@@ -102,7 +102,17 @@ def read_data(script, folder):
     for role, name in (("nodes", script.nodes), ("edges", script.edges)):
         line = (4, f"data: {role} record 0 column 0: TooLarge")
         files.append(fetched(role, within(folder, name), data_faults.MOST_BYTES, line))
-    loaded = data_faults.loaded(*files)
+    loaded = without_fault(data_faults.loaded(*files))
+    for number, statement in enumerate(script.statements, 2):
+        if isinstance(statement, Insert):
+            role = f"insert {number}"
+            line = (4, f"data: {role} record 0 column 0: TooLarge")
+            data = fetched(role, within(folder, statement.file), data_faults.MOST_BYTES, line)
+            loaded = without_fault(data_faults.extended(loaded, files[1], role, data))
+    return loaded
+
+
+def without_fault(loaded):
     if isinstance(loaded, data_faults.Fault):
         raise Refused(4, f"data: {loaded.file} record {loaded.record} column {loaded.column}: {loaded.kind}")
     return loaded
@@ -130,8 +140,6 @@ def judged(words, folder):
             loaded = read_data(script, room)
     fault = check_faults.first_fault(script, loaded.node_kinds, loaded.edge_kinds)
     if fault:
-        if fault.kind == "NotBuilt":
-            raise Refused(9, f"not built: statement {fault.statement}")
         place = f"statement {fault.statement}: " if fault.statement else ""
         raise Refused(5, f"script: {place}{fault.kind}")
     return asked, script, loaded

@@ -8,7 +8,8 @@ TRUTHS = {"true": True, "True": True, "TRUE": True, "false": False, "False": Fal
 class Graph:
     """Nodes and edges by their numbers from 0, in the order of the files; a cell that is absent is None."""
 
-    def __init__(self, ids, node_cells, ends, edge_cells):
+    def __init__(self, ids, node_cells, ends, edge_cells, groups=None):
+        self.groups = [len(ends)] if groups is None else groups
         self.ids = ids
         self.node_cells = node_cells
         self.ends = ends
@@ -38,9 +39,12 @@ def columns_of(header, records, keys):
     return columns
 
 
-def graph_of(nodes_path, edges_path):
-    nodes, edges = records_of(nodes_path), records_of(edges_path)
+def graph_of(nodes_path, edges_path, inserted=()):
+    """The graph of all edges, those of the files that a script inserts behind the others; it has the number of edges of each file."""
+    nodes, files = records_of(nodes_path), [records_of(it) for it in (edges_path, *inserted)]
+    edges = [record for records in files for record in records[1:]]
     ids = [int(record[0]) for record in nodes[1:]]
     number = {node_id: place for place, node_id in enumerate(ids)}
-    ends = [(number[int(record[0])], number[int(record[1])]) for record in edges[1:]]
-    return Graph(ids, columns_of(nodes[0], nodes[1:], 1), ends, columns_of(edges[0], edges[1:], 2))
+    ends = [(number[int(record[0])], number[int(record[1])]) for record in edges]
+    groups = [len(records) - 1 for records in files]
+    return Graph(ids, columns_of(nodes[0], nodes[1:], 1), ends, columns_of(files[0][0], edges, 2), groups)

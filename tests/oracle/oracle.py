@@ -14,11 +14,11 @@ from collections import namedtuple
 
 import printing
 from graph import graph_of
-from order import distances, greedy
-from predicates import edges_of
-from rounds import Lone
+from order import distances, greedy, tree_order
+from predicates import edges_of, holds
+from rounds import Lone, phases_answer
 from sample import SCRIPT, write_sample
-from script import Append, Collection, Program, Rule, Run, ShowOrder, ShowWork, View, script_of
+from script import Aggregate, Append, Collection, Insert, Program, Remove, Rule, Run, ShowOrder, ShowTree, ShowWork, View, script_of
 from tokens import NotAScript
 from values import meaning
 from work import Segments
@@ -34,11 +34,12 @@ Kept = namedtuple("Kept", "name statement collection order lones segments")
 
 
 class Views:
-    """The views of a collection, in declared order: their names and their edges."""
+    """The views of a collection, in declared order: their names, their predicates and the edges that they have now."""
 
     def __init__(self, rules):
         self.rules = rules
         self.names = []
+        self.own = []
         self.edges = []
 
 
@@ -55,6 +56,9 @@ class Oracle:
         self.collections = {}
         self.kept = []
         self.written = []
+        # (the edges that there are now, and how many files they came with)
+        self.live = set(range(graph.groups[0]))
+        self.files = 1
 
     def text(self):
         for statement in self.script.statements:
@@ -77,6 +81,16 @@ class Oracle:
             self.show_order(statement.name)
         elif isinstance(statement, ShowWork):
             self.show_work(statement.name)
+        elif isinstance(statement, ShowTree):
+            self.show_tree(statement.name)
+        elif isinstance(statement, Aggregate):
+            self.aggregate(statement)
+        elif isinstance(statement, Insert):
+            first = sum(self.graph.groups[: self.files])
+            self.edit(self.live | set(range(first, first + self.graph.groups[self.files])))
+            self.files += 1
+        elif isinstance(statement, Remove):
+            self.edit({edge for edge in self.live if not holds(statement.rule, self.graph, edge)})
 
     def add_views(self, name, items):
         """Adds the views of some items, and answers their numbers."""
@@ -85,7 +99,8 @@ class Oracle:
         for item in items:
             for view, rule in views_of(item):
                 views.names.append(view)
-                views.edges.append(edges_of([*views.rules, rule], self.graph))
+                views.own.append(rule)
+                views.edges.append(edges_of([*views.rules, rule], self.graph, self.live))
         return range(first, len(views.names))
 
     def meant(self, call):
@@ -110,18 +125,37 @@ class Oracle:
         views = self.collections[kept.collection]
         if kept.statement.order == "declared":
             order = list(new)
+        elif kept.statement.order == "tree" and not kept.order:
+            order = [view for view, _ in tree_order([views.edges[view] for view in new])[0]]
         else:
             order = greedy(views.edges, kept.order[-1] if kept.order else None, new)
-        meant = self.meant(kept.statement.call)
-        for view in order:
-            kept.lones[view] = Lone(meant, views.edges[view], self.graph)
+        self.run_alone(kept, order)
         kept.order.extend(order)
         for view in new:
             self.table(kept, view)
 
+    def run_alone(self, kept, views):
+        meant = self.meant(kept.statement.call)
+        for view in views:
+            kept.lones[view] = Lone(meant, self.collections[kept.collection].edges[view], self.graph)
+
+    def edit(self, live):
+        """Edges come or go: the tables of all kept runs are written again."""
+        self.live = live
+        for views in self.collections.values():
+            views.edges = [edges_of([*views.rules, rule], self.graph, live) for rule in views.own]
+        for kept in self.kept:
+            views = range(len(self.collections[kept.collection].names))
+            self.run_alone(kept, views)
+            for view in views:
+                self.table(kept, view)
+
     def table(self, kept, view):
         views, statement = self.collections[kept.collection], kept.statement
-        answer = kept.lones[view].answer(statement.within, statement.rounds)
+        if statement.phases is None:
+            answer = kept.lones[view].answer(statement.within, statement.rounds)
+        else:
+            answer = phases_answer(kept.lones[view], statement.rounds, statement.phases)
         head = f"view {kept.collection}.{views.names[view]} {printing.call(statement.call)} {answer.outcome}"
         if self.is_summary:
             self.written.append(head + summary(len(views.edges[view]), answer.values) + "\n")
@@ -144,6 +178,32 @@ class Oracle:
         lines += [f"{views.names[view]} {step}" for view, step in rows]
         self.written.append("".join(line + "\n" for line in [*lines, "end"]))
 
+    def show_tree(self, name):
+        views = self.collections[name]
+        walk, weight, length = tree_order(views.edges)
+        lines = [f"tree {name} {weight} {length}"]
+        for view, parent in walk:
+            step = len(set(views.edges[view]) ^ set([] if parent is None else views.edges[parent]))
+            lines.append(f"{views.names[view]} {'-' if parent is None else views.names[parent]} {step}")
+        self.written.append("".join(line + "\n" for line in [*lines, "end"]))
+
+    def aggregate(self, statement):
+        views = self.collections[statement.target]
+        by = f" by {printing.prop(statement.by)}" + ("" if statement.sum is None else f" sum {printing.prop(statement.sum)}")
+        cells = self.graph.node_cells[statement.by]
+        for name, edges in zip(views.names, views.edges):
+            groups = {}
+            for edge in edges:
+                source, target = self.graph.ends[edge]
+                groups.setdefault((group_key(cells[source]), group_key(cells[target])), []).append(edge)
+            lines = [f"aggregate {statement.target}.{name}{by}"]
+            for (source, target), them in sorted(groups.items()):
+                row = [group_text(source), group_text(target), str(len(them))]
+                if statement.sum is not None:
+                    row.append(str(sum(self.graph.edge_cells[statement.sum][edge] or 0 for edge in them)))
+                lines.append(",".join(row))
+            self.written.append("".join(line + "\n" for line in [*lines, "end"]))
+
     def show_work(self, name):
         kept = next(it for it in self.kept if it.name == name)
         views = self.collections[kept.collection]
@@ -165,6 +225,20 @@ def views_of(item):
             "and",
             [("compare", column, ">=", ("number", low)), ("compare", column, "<", ("number", low + item.width))],
         )
+
+
+def group_key(cell):
+    """A cell as it is compared: an absent one is least, and a text goes by its bytes."""
+    return (0, 0) if cell is None else (1, cell.encode("utf-8") if isinstance(cell, str) else cell)
+
+
+def group_text(key):
+    present, cell = key
+    if not present:
+        return "-"
+    if isinstance(cell, bool):
+        return "true" if cell else "false"
+    return str(cell) if isinstance(cell, int) else printing.string(cell.decode("utf-8"))
 
 
 def shown(value):
@@ -193,7 +267,7 @@ def answer(asked):
     if asked.sample is None:
         with open(asked.script, "rb") as file:
             script = script_of(file.read())
-        graph = graph_of(script.nodes, script.edges)
+        graph = graph_of(script.nodes, script.edges, [it.file for it in script.statements if isinstance(it, Insert)])
     else:
         script = script_of(SCRIPT)
         with tempfile.TemporaryDirectory() as folder:

@@ -43,6 +43,6 @@ def holds(tree, graph, edge):
     return left is not None and right is not None and COMPARE[tree[2]](left, right)
 
 
-def edges_of(rules, graph):
-    """The edges for which each of these predicates holds, by their numbers."""
-    return [edge for edge in range(len(graph.ends)) if all(holds(rule, graph, edge) for rule in rules)]
+def edges_of(rules, graph, live):
+    """The live edges for which each of these predicates holds, by their rising numbers."""
+    return [edge for edge in sorted(live) if all(holds(rule, graph, edge) for rule in rules)]

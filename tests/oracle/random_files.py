@@ -22,7 +22,7 @@ import warnings
 import bases
 import faults
 import mutations
-from script import Append, Collection, Run, ShowOrder, ShowWork
+from script import Aggregate, Append, Collection, Insert, Remove, Run, ShowOrder, ShowTree, ShowWork
 
 HERE = os.path.dirname(os.path.abspath(__file__))
 SECONDS = 60
@@ -51,7 +51,7 @@ class Maker:
                 base = base._replace(edges=draw.choice(mutations.OF_RECORDS)(draw, base.edges))
         else:
             base = bases.drawn(draw) if draw.randint(0, 3) else draw.choice(self.written_down)
-        case = Case(mutations.words_drawn(draw), {"s.gv": base.script, "n.csv": base.nodes, "e.csv": base.edges})
+        case = Case(mutations.words_drawn(draw), {"s.gv": base.script, "n.csv": base.nodes, "e.csv": base.edges, **base.more})
         for _ in range(draw.choice([0, 1, 1, 1, 1, 2, 2, 3])):
             case = self.changed(draw, case)
         return case
@@ -65,7 +65,7 @@ class Maker:
         if chance <= 4:
             return case._replace(files=laid_elsewhere(draw, files))
         if chance <= 42:
-            name, changes = draw.choice(["n.csv", "e.csv", "e.csv"]), mutations.OF_DATA
+            name, changes = draw.choice(["n.csv", "e.csv", "e.csv", *inserted_in(files)]), mutations.OF_DATA
         else:
             name, changes = "s.gv", mutations.OF_SCRIPTS
         data = files[name]
@@ -80,6 +80,11 @@ class Maker:
         return case._replace(files=files)
 
 
+def inserted_in(files):
+    """The names of the files whose edges are inserted."""
+    return [name for name in files if name not in ("s.gv", "n.csv", "e.csv")]
+
+
 def laid_elsewhere(draw, files):
     """Files exchanged, missing, or folders; or other names in the load."""
     one, other = draw.choice(list(files)), draw.choice(list(files))
@@ -91,8 +96,9 @@ def laid_elsewhere(draw, files):
     elif form == 2:
         files[one] = "folder"
     elif isinstance(files["s.gv"], bytes):
+        loaded = [b"n.csv", b"e.csv", *(name.encode() for name in inserted_in(files))]
         names = [b"", b"no.csv", b"./n.csv", b"n.csv/x", b"x/n.csv", b".", b"/", b"e.csv", b"n.csv", b"s.gv", b"N.CSV", b" n.csv", b"a" * 300, b"/dev/null"]
-        files["s.gv"] = files["s.gv"].replace(draw.choice([b"n.csv", b"e.csv"]), draw.choice(names), 1)
+        files["s.gv"] = files["s.gv"].replace(draw.choice(loaded), draw.choice(names), 1)
     return files
 
 
@@ -119,10 +125,14 @@ def steps_of(script, loaded):
             steps += views[name] * size
         elif isinstance(it, Run):
             # (of these it is known that they settle)
-            rounds = min(it.rounds, size) if it.call.name in ("hops", "wcc") else it.rounds
+            rounds = (min(it.rounds, size) if it.call.name in ("hops", "wcc") else it.rounds) * (it.phases or 1)
             steps += views[it.target] * (rounds * size + views[it.target] * size // 4)
             rounds_of[it.keep] = rounds * views[it.target] * size
-        elif isinstance(it, ShowOrder):
+        elif isinstance(it, (Insert, Remove)):
+            steps += size + sum(rounds for keep, rounds in rounds_of.items() if keep)
+        elif isinstance(it, Aggregate):
+            steps += views[it.target] * size
+        elif isinstance(it, (ShowOrder, ShowTree)):
             steps += views[it.name] ** 2 * size // 4
         elif isinstance(it, ShowWork):
             steps += 10 * rounds_of.get(it.name, 0)

@@ -1,19 +1,28 @@
 #!/usr/bin/env python3
-"""Compares the program with the oracle on random small scripts: tables, appends, orders and works under all splits.
+"""Compares the program with the oracle on random small scripts: tables, appends, orders and works under all splits, and in form 2
+edges that come and go, aggregates, trees and phases.
 
-    tests/oracle/random_scripts.py [--count 2000] [--seed 1] [--binary crates/surge/out/surge]
+    tests/oracle/random_scripts.py [--count 2000] [--seed 1] [--form 1|2] [--counts] [--binary crates/surge/out/surge]
 
-Each script has a graph of up to seven nodes, a collection of views, a run or two that are kept, perhaps an append, and shows. The last
-line counts what agreed; the status is 1 where something did not, and the folder of the first such script is named.
+Each script has a graph of up to seven nodes, a collection of views, a run or two that are kept, perhaps an append, and shows; every
+second one is of form 2. Output, line on standard error and status are compared. The last line counts what agreed; the status is 1
+where something did not, and the folder of the first such script is named. `--form` draws scripts of that form alone; `--counts`
+tells how many statements of each kind there were, and how the scripts ended.
 """
 import argparse
 import os
 import random
+import re
 import subprocess
 import sys
 import tempfile
+from collections import Counter
 
 HERE = os.path.dirname(os.path.abspath(__file__))
+sys.path.insert(0, HERE)
+
+import oracle  # noqa: E402 (it lies beside this file)
+
 PROGRAMS = [
     "program indeg { along out; start 0; send 1; gather count; update gathered; }",
     "program far { along in; start id; send value; gather max; update max(value, gathered); }",
@@ -59,49 +68,136 @@ def script(draw):
     return "\n".join(lines) + "\n"
 
 
-def graph(draw):
-    nodes = draw.randint(1, 7)
-    ids = draw.sample(range(1, 9), nodes)
-    edges = [
+def second_script(draw, files):
+    """A script of form 2, which inserts these files."""
+    lines = ["form 2;", "load graph G nodes 'n.csv' edges 'e.csv';"]
+    listed = ", ".join(f"[v{i}: {predicate(draw)}]" for i in range(draw.randint(1, 5)))
+    lines.append(f"create view collection C on G {listed};")
+    lines.append(f"create view collection D on G [d: {predicate(draw)}];")
+    lines += PROGRAMS
+    statements = [f"insert edges '{file}';" for file in files]
+    for run in range(draw.randint(1, 3)):
+        way = draw.choice(["within", "for"])
+        split = draw.choice(["", " split none", f" split every {draw.randint(1, 3)}", " split auto"])
+        order = draw.choice(["", " order greedy", " order declared", " order tree"])
+        keep = draw.choice(["", f" keep as K{run}", f" keep as K{run}"])
+        statements.append(f"run {draw.choice(CALLS)} on {draw.choice('CCD')} {way} {draw.randint(1, 6)} rounds{order}{split}{keep};")
+    for _ in range(draw.randint(0, 2)):
+        statements.append(f"remove edges where {predicate(draw)};")
+    for _ in range(draw.randint(0, 2)):
+        statements.append(f"run {draw.choice(CALLS)} on C within {draw.randint(1, 4)} rounds phases {draw.randint(1, 4)};")
+    for _ in range(draw.randint(0, 2)):
+        statements.append(f"aggregate {draw.choice('CD')} group by {draw.choice(['g', 't', 'b'])}{draw.choice(['', ' sum w', ' sum y'])};")
+    for append in range(draw.randint(0, 2)):
+        more = ", ".join(f"[a{append}{i}: {predicate(draw)}]" for i in range(draw.randint(1, 3)))
+        statements.append(f"append to C {more};")
+    statements += draw.choice([[], ["show tree C;"], ["show order C;"], ["show tree C;", "show order D;"]])
+    draw.shuffle(statements)
+    # (works are shown of runs behind which no edges come or go)
+    last = max((place for place, it in enumerate(statements) if it.startswith(("insert", "remove"))), default=-1)
+    places = [place for place, it in enumerate(statements) if " keep as " in it and place > last]
+    if places:
+        place = draw.choice(places)
+        statements.insert(draw.randint(place + 1, len(statements)), f"show work {statements[place].split()[-1]}")
+    # (files are inserted in the order of their names, so that each is named once)
+    names = iter(files)
+    return "\n".join([*lines, *(f"insert edges '{next(names)}';" if it.startswith("insert") else it for it in statements)]) + "\n"
+
+
+def edges(draw, ids, most):
+    rows = [
         (draw.choice(ids), draw.choice(ids), draw.choice(["", "0", "1", "2", "3"]), draw.randint(0, 3))
-        for _ in range(draw.randint(0, 12))
+        for _ in range(draw.randint(0, most))
     ]
-    return (
-        "id\n" + "".join(f"{i}\n" for i in ids),
-        "src,dst,w:int,y:int\n" + "".join(f"{a},{b},{w},{y}\n" for a, b, w, y in edges),
-    )
+    return "src,dst,w:int,y:int\n" + "".join(f"{a},{b},{w},{y}\n" for a, b, w, y in rows)
+
+
+def graph(draw):
+    ids = draw.sample(range(1, 9), draw.randint(1, 7))
+    cells = [(i, draw.choice(["", "1", "2", "-3"]), draw.choice(["", "a", "it's", "b"]), draw.choice(["", "true", "false"])) for i in ids]
+    return ids, "id,g:int,t:str,b:bool\n" + "".join(f"{i},{g},{t},{b}\n" for i, g, t, b in cells)
 
 
 def ran(words, folder):
     done = subprocess.run(words, cwd=folder, capture_output=True, check=False)
-    return done.returncode, done.stdout
+    return done.returncode, done.stdout, done.stderr
+
+
+def wanted(words, folder):
+    """The status and both streams by the oracle, which answers scripts without faults alone."""
+    os.chdir(folder)
+    return 0, oracle.answer(oracle.words(words)).encode("utf-8"), b""
+
+
+KINDS = {
+    "runs": r"^run (?!.* phases )",
+    "kept runs": r"^run .* keep as",
+    "runs in tree order": r"^run .* order tree",
+    "runs in phases": r"^run .* phases",
+    "appends": r"^append",
+    "inserts": r"^insert",
+    "removals": r"^remove",
+    "aggregates": r"^aggregate (?!.* sum )",
+    "aggregates with a sum": r"^aggregate .* sum ",
+    "shown orders": r"^show order",
+    "shown trees": r"^show tree",
+    "shown works": r"^show work",
+}
+
+
+def counted(text):
+    """How many statements of each kind a script has, and how many there are of those that kept runs follow."""
+    lines = text.splitlines()
+    counts = Counter({kind: sum(bool(re.match(pattern, it)) for it in lines) for kind, pattern in KINDS.items()})
+    kept = 0
+    for it in lines:
+        kept += " keep as " in it
+        if it.startswith(("insert", "remove")) and kept:
+            counts["edits behind kept runs"] += 1
+            counts["kept runs that followed one"] += kept
+        counts["appends behind kept runs"] += it.startswith("append") and kept > 0
+    return counts
 
 
 def main():
     words = argparse.ArgumentParser(description=__doc__, formatter_class=argparse.RawDescriptionHelpFormatter)
     words.add_argument("--count", type=int, default=2000)
     words.add_argument("--seed", type=int, default=1)
+    words.add_argument("--form", type=int, choices=(1, 2))
+    words.add_argument("--counts", action="store_true")
     words.add_argument("--binary", default=f"{HERE}/../../crates/surge/out/surge")
     given = words.parse_args()
     binary = os.path.abspath(given.binary)
-    agreed = 0
+    agreed, counts = 0, Counter()
     for number in range(given.count):
         draw = random.Random(f"{given.seed}/{number}")
         folder = tempfile.mkdtemp(prefix="surge-random-")
-        nodes, edges = graph(draw)
-        for name, text in (("n.csv", nodes), ("e.csv", edges), ("s.gv", script(draw))):
+        ids, nodes = graph(draw)
+        files = {"n.csv": nodes, "e.csv": edges(draw, ids, 12)}
+        if (given.form or 1 + number % 2) == 1:
+            files["s.gv"] = script(draw)
+        else:
+            inserted = [f"i{place}.csv" for place in range(draw.randint(0, 3))]
+            files |= {name: edges(draw, ids, 4) for name in inserted}
+            files["s.gv"] = second_script(draw, inserted)
+        for name, text in files.items():
             with open(f"{folder}/{name}", "w", encoding="utf-8") as file:
                 file.write(text)
         mode = draw.choice(["run", "run", "summary"])
         asked = ["--script", "s.gv", "--mode", mode]
         turned = [*asked, "--turns", str(draw.randint(0, 9))] if draw.randint(0, 1) else asked
-        if ran([binary, *turned], folder) != ran([sys.executable, f"{HERE}/oracle.py", *asked], folder):
+        told = wanted(asked, folder)
+        if ran([binary, *turned], folder) != told:
             print(f"not the same: {folder}")
             break
         agreed += 1
-        for name in ("n.csv", "e.csv", "s.gv"):
+        counts += Counter({f"scripts in mode {mode}": 1, "bytes of output": len(told[1]), "unsettled": told[1].count(b" unsettled")})
+        counts += counted(files["s.gv"])
+        for name in files:
             os.remove(f"{folder}/{name}")
         os.rmdir(folder)
+    if given.counts:
+        print("".join(f"{kind}: {count}\n" for kind, count in sorted(counts.items())), end="")
     print(f"{agreed} of {given.count} agreed")
     return 0 if agreed == given.count else 1
 

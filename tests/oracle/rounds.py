@@ -1,6 +1,7 @@
 """The plain run of a program on one view, round by round (docs/LANGUAGE.md, "Programs" and "Runs")."""
 
 from collections import namedtuple
+from copy import copy
 
 from values import clamped
 
@@ -37,9 +38,18 @@ class Lone:
         self.outdeg = [0] * len(graph.ids)
         for tail, _, _ in self.arcs:
             self.outdeg[tail] += 1
-        self.starts = [meant.start(node, node_id) for node, node_id in enumerate(graph.ids)]
+        self.begin([meant.start(node, node_id) for node, node_id in enumerate(graph.ids)])
+
+    def begin(self, starts):
+        self.starts = starts
         self.rounds = [self.starts]
         self.inboxes = []
+
+    def started(self, starts):
+        """The same with other starts."""
+        other = copy(self)
+        other.begin(starts)
+        return other
 
     def messages(self, place):
         """What each node gets under the values after this many rounds."""
@@ -81,3 +91,13 @@ class Lone:
             return Answer("unsettled", None) if settled is None else Answer(f"settled {settled}", self.values(settled))
         # (behind a fixpoint the values stay)
         return Answer(f"after {rounds}", self.values(rounds if settled is None else settled))
+
+
+def phases_answer(lone, rounds, phases):
+    """The answer after so many phases of so many rounds: each phase starts with the values in which the one before it ended."""
+    for _ in range(phases):
+        last, before = lone.values(rounds), lone.values(rounds - 1)
+        if last != before:
+            return Answer("unsettled", None)
+        lone = lone.started(last)
+    return Answer(f"phases {phases}", lone.starts)
