@@ -134,7 +134,7 @@ def sides_of(case, program, cpp, folder):
     """Each side's words, by name: those of the program first."""
     sides = {name: [program, *words] for name, words in case.ours.items()}
     for name in case.peers:
-        if name not in cpp or (name == "plain" and case.program not in ("hops", "dist")):
+        if name not in cpp or (name == "plain" and case.program not in ("hops", "dist", "aggregate")):
             continue
         sides[name] = [cpp[name], folder, case.program, "run"] if case.workload else [cpp[name], "--sample", "1"]
     return sides

@@ -57,6 +57,18 @@ def turned(program):
     return Case("turns", program, "windows-mid", ours, (bound,), (), rounds=1)
 
 
+def edits(name, program, *words):
+    """A kept run that follows twenty edits, and the run made anew behind each of them."""
+    ours = {side: ("--script", f"{program}-{side}.gv", *words) for side in ("kept", "anew")}
+    return Case(name, program, name, ours, (Bound("kept", "seconds", 0.25, "anew"),), (), rounds=1)
+
+
+def aggregates():
+    """The edges of each view in groups, and one pass over what the views differ in."""
+    ours = {"surge": ("--script", "aggregate.gv")}
+    return Case("aggregates", "aggregate", "aggregates", ours, (Bound("surge", "seconds", 3, "plain"),), ("plain",))
+
+
 def sample():
     ours = {"surge": ("--sample", "1", "--mode", "summary")}
     return Case("sample", "dist", "", ours, (Bound("surge", "seconds", 3, "plain"),), ("plain",), rounds=30)
@@ -78,5 +90,9 @@ def all_cases():
         yield disjoint(program)
     for program in ("hops", "pagerank"):
         yield turned(program)
+    for name in ("edits", "edits-100", "edits-1000"):
+        for program in ("hops", "wcc", "dist"):
+            yield edits(name, program, "--mode", "summary")
+    yield aggregates()
     for program in ("hops", "dist", "wcc"):
         yield shared("windows-large", program, factors[program], by_memory)

@@ -5,7 +5,9 @@
 
 The ids in nodes.csv are 1 to the number of nodes; an edge in edges.csv has a weight w and a time t, by which views are
 told. PROGRAM.gv runs a program on all views as one segment, PROGRAM-auto.gv with split auto, PROGRAM-every-1.gv with
-split every 1. The C++ sides read the views in views.txt and views.json.
+split every 1. Where edges come and go, PROGRAM-kept.gv keeps a run that follows the edits, and PROGRAM-anew.gv makes the run
+anew behind each. Where nodes have groups, aggregate.gv groups the edges of each view. The C++ sides read the views in views.txt
+and views.json.
 """
 
 import json
@@ -19,7 +21,8 @@ EVER = 2**62
 
 @dataclass
 class Workload:
-    """A graph's size and edges, and views on it: the collection's items, and each view's name and ranges of times."""
+    """A graph's size and edges, and views on it: the collection's items, and each view's name and ranges of times. Perhaps also
+    the groups of its nodes, and files of edges that are inserted, with a predicate behind each whose edges are removed."""
 
     nodes: int
     edges: object
@@ -27,6 +30,9 @@ class Workload:
     views: list
     rounds: int = 1000
     source: int = 1
+    groups: object = None
+    inserts: list = field(default_factory=list)
+    removed: list = field(default_factory=list)
     rules: dict = field(init=False)
 
     def __post_init__(self):
@@ -75,6 +81,25 @@ def windowed(name, nodes, edges, times, window):
     return Workload(nodes, rows, *windows(*window), source=ids[0])
 
 
+def edited(edits, edges):
+    """A graph with hubs and windows as those of "windows-mid", of which edges come and go in turn: so many further ones, whose
+    ends and times are drawn, and of the thousand or so of one time about as many, by their weights, which are up to 100."""
+    work, draw = windowed("windows-mid", 100_000, 1_000_000, 1_000, (0, 150, 850, 10)), drawer("edits")
+    for _ in range(edits):
+        work.inserts.append(
+            [(1 + draw(work.nodes), 1 + draw(work.nodes), 1 + draw(100), draw(1_000)) for _ in range(edges)]
+        )
+        work.removed.append(f"t = {draw(1_000)} and w <= {edges // 10}")
+    return work
+
+
+def grouped(name, groups):
+    """The graph and the windows of "windows-fine", whose nodes are in groups."""
+    work, draw = windowed("windows-fine", 100_000, 1_000_000, 10_000, (0, 630, 9_370, 10)), drawer(name)
+    work.groups = [draw(groups) for _ in range(work.nodes)]
+    return work
+
+
 def path(name, nodes, ids, prefixes, cuts):
     """A path; views of its beginning, which grows, and then of all of it but one edge. An edge's time is its place."""
     draw = drawer(name)
@@ -100,6 +125,12 @@ WORKLOADS = {
     "windows-large": lambda: windowed("windows-large", 1_000_000, 4_000_000, 1_000, (0, 150, 850, 10)),
     # 64 windows and 0.1%.
     "windows-fine": lambda: windowed("windows-fine", 100_000, 1_000_000, 10_000, (0, 630, 9_370, 10)),
+    # The windows of windows-mid, behind ten files of so many edges and ten removals of about as many.
+    "edits": lambda: edited(10, 10),
+    "edits-100": lambda: edited(10, 100),
+    "edits-1000": lambda: edited(10, 1_000),
+    # The windows of windows-fine, over nodes in 32 groups.
+    "aggregates": lambda: grouped("aggregates", 32),
     # 16 views that have no edge in common.
     "disjoint": lambda: windowed("disjoint", 20_000, 960_000, 16, (0, 15, 1, 1)),
     # Thousands of rounds; the second with ids that rise along the path, so that least ids change in each round.
@@ -113,20 +144,40 @@ def write(folder, name, text):
         file.write(text)
 
 
-def write_data(folder, work):
-    write(folder, "nodes.csv", "id\n" + "".join(f"{number}\n" for number in range(1, work.nodes + 1)))
-    with open(os.path.join(folder, "edges.csv"), "w", newline="\n") as file:
+def write_edges(folder, name, rows):
+    with open(os.path.join(folder, name), "w", newline="\n") as file:
         file.write("src,dst,w:int,t:int\n")
-        file.writelines("%d,%d,%d,%d\n" % row for row in work.edges)
+        file.writelines("%d,%d,%d,%d\n" % row for row in rows)
+
+
+def write_data(folder, work):
+    cells = [""] * work.nodes if work.groups is None else [f",{group}" for group in work.groups]
+    header = "id\n" if work.groups is None else "id,g:int\n"
+    write(folder, "nodes.csv", header + "".join(f"{number}{cell}\n" for number, cell in enumerate(cells, 1)))
+    write_edges(folder, "edges.csv", work.edges)
+    for number, rows in enumerate(work.inserts, 1):
+        write_edges(folder, f"more-{number}.csv", rows)
+
+
+def edits_of(work):
+    for number, rule in enumerate(work.removed, 1):
+        yield f"insert edges 'more-{number}.csv';\n"
+        yield f"remove edges where {rule};\n"
 
 
 def write_scripts(folder, work):
     load = "load graph S nodes 'nodes.csv' edges 'edges.csv';\n"
     collection = f"create view collection W on S {work.items};\n"
     for program, rule in work.rules.items():
+        begun = f"run {work.call(program)} on W {rule}"
         for name, split in (("", "none"), ("-auto", "auto"), ("-every-1", "every 1")):
-            run = f"run {work.call(program)} on W {rule} split {split};\n"
-            write(folder, f"{program}{name}.gv", load + collection + run)
+            write(folder, f"{program}{name}.gv", load + collection + f"{begun} split {split};\n")
+        edits = list(edits_of(work))
+        if edits:
+            first = "form 2;\n" + load + collection
+            write(folder, f"{program}-kept.gv", first + f"{begun} keep as K;\n" + "".join(edits))
+            write(folder, f"{program}-anew.gv", first + f"{begun};\n" + "".join(f"{it}{begun};\n" for it in edits))
+    write(folder, "aggregate.gv", "form 2;\n" + load + collection + "aggregate W group by g sum w;\n")
 
 
 def write_views(folder, work):
