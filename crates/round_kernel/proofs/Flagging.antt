@@ -186,7 +186,7 @@ module _ (answer : Answer) (f : Frame) (r : ℕ) (lists : Lists) (frame : IsFram
   apart-all flags right first u e low unset = flag-tells answer f (r + 1) (was_touched_at answer f (r + 1)) lists at u (get_or flags u false) low first (right u low) unset e
 
   module _ (was mid next : Suspects) (suspects : StandSuspects answer f r was)
-      (stays : mid.apart ≡ was.apart) (moved : AreSet (λ u to. to ≡ stamp (r + 1)) 0 new was.moved.items mid.moved.items)
+      (stays : mid.apart ≡ was.apart) (same_size : length mid.moved.items ≡ length was.moved.items) (moved : (u : ℕ) → is_changed u new ≡ true → get_or mid.moved.items u 0 ≡ stamp (r + 1))
       (size : length next.apart.items ≡ length mid.apart.items)
       (apart : f.first ≡ false → (u e : ℕ) → u < count_in f → get_or next.apart.items u false ≡ false
       → sent_in answer f.program.now f.graph.now (new_arcs f) (r + 1) u e ≡ sent_in answer f.program.now f.graph.now (arcs_in f.rows.now.by_head f.old.now) (r + 1) u e)
@@ -197,7 +197,7 @@ module _ (answer : Answer) (f : Frame) (r : ℕ) (lists : Lists) (frame : IsFram
     moved-next : (u : ℕ) → u < count_in f → (get_or next.moved.items u 0 ≡ stamp (r + 1) → ⊥)
         → value_at (lone_at answer f (r + 1)) u ≡ value_at (lone_at answer f (r + 1 - 1)) u
     moved-next u low stays = elim (cases_Bool (is_changed u new)) [
-      | inl listed ↦ absurd (stays (same-moved u ∙ moved.right u listed))
+      | inl listed ↦ absurd (stays (same-moved u ∙ moved u listed))
       | inr out ↦
           let back : r ≡ r + 1 - 1 = omega arith in
           unchanged-at (count_in f) (lone_at answer f r) (lone_at answer f (r + 1)) new u low news out ∙ ap (λ (k : ℕ). value_at (lone_at answer f k) u) back
@@ -206,7 +206,7 @@ module _ (answer : Answer) (f : Frame) (r : ℕ) (lists : Lists) (frame : IsFram
     pub told-next : StandSuspects answer f (r + 1) next
     told-next = record {
       apart_size = size ∙ ap (λ v. length v.items) stays ∙ suspects.apart_size;
-      moved_size = ap (λ v. length v.items) kept ∙ moved.size ∙ suspects.moved_size;
+      moved_size = ap (λ v. length v.items) kept ∙ same_size ∙ suspects.moved_size;
       apart = apart;
       moved = λ later u low stays. moved-next u low stays;
       turned = subst (λ t. TellTurned (λ a. a.head.0) f.graph.now f.rows.now.by_head f.first f.old.now f.new.now t) (sym turned) suspects.turned;

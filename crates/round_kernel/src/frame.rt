@@ -2,6 +2,7 @@
 
 ghost use Rattle.std.specs.Prelude.{◌≡◌, ◌<◌, ◌-◌, true, false, length, get_or, All, IfOk};
 ghost use Rattle.arc_rows.specs.Counts.{AreBoth};
+ghost use Rattle.message_forms.specs.Forms.{MayKeep};
 ghost use Rattle.round_kernel.specs.Rounds.{AreIdle};
 ghost use Rattle.round_kernel.specs.Frames.{IsFrame, StandAt, was_touched_at};
 
@@ -96,7 +97,7 @@ impl Lists {
             old: old_degrees,
             new: new_degrees,
         } = degrees;
-        let may = may_keep(frame.program, frame.graph);
+        let may = keeps_messages(frame);
         let sender = Sender {
             program: frame.program,
             graph: frame.graph,
@@ -144,6 +145,24 @@ impl Lists {
             new: self.new_degrees,
         }
     }
+}
+
+// Whether what each node sends may be kept, as it may be where nearly all messages are alike. A brief step keeps nothing: hardly
+// anybody asks.
+fn keeps_messages(frame: Frame<'_>) -> bool
+    ensures { MayKeep result frame.entry.program.now frame.entry.graph.now }
+{
+    if is_brief(frame) {
+        return false;
+    }
+    may_keep(frame.program, frame.graph)
+}
+
+/// Whether a step is likely to be brief: there is a view before, and hardly an edge is in one of the two alone, fewer arcs than one
+/// for 4,096 nodes. Then hardly a node is visited, and what is made of all nodes to visit many of them fast isn't worth it.
+pub(crate) fn is_brief(frame: Frame<'_>) -> bool {
+    let few = frame.graph.node_count() as usize / 4_096;
+    !frame.first && frame.turned.len() < few
 }
 
 // The tails of these arcs.

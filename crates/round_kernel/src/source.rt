@@ -7,7 +7,7 @@ ghost use Rattle.change_lists.specs.ChangeLists.{HasChanges};
 ghost use Rattle.arc_rows.specs.Listings.{AreLinks, AreTails, IsListed};
 ghost use Rattle.arc_rows.specs.RowLists.{AreRows};
 
-use crate::frame::{Frame, Lists};
+use crate::frame::{Frame, Lists, is_brief};
 use arc_rows::{Listed, Live, live_links, live_tails};
 use change_lists::Change;
 use graph_model::NodeNo;
@@ -18,7 +18,7 @@ use surge_outside::NoMemory;
 use value_codes::{numbers_of, renew};
 use vertex_lang::Updater;
 
-/// At round 0. The error is want of memory.
+/// At round 0. In a brief step nothing is kept. The error is want of memory.
 pub(crate) fn first_source<U: Updater>(
     alloc: Global,
     frame: Frame<'_>,
@@ -31,6 +31,9 @@ pub(crate) fn first_source<U: Updater>(
     requires listed { IsListed frame.graph.now frame.rows.now.by_head frame.new.now listed }
     ensures { IfOk result (StandsSource U.answer frame.entry 0) }
 {
+    if is_brief(frame) {
+        return Ok(MessageSource::Nothing);
+    }
     if lists.alike {
         return Ok(MessageSource::Messages(listed.tails()));
     }

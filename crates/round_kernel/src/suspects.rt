@@ -5,10 +5,11 @@ ghost use Rattle.vertex_lang.specs.Ignoring.{IgnoresOutdeg};
 ghost use Rattle.round_kernel.specs.Frames.{IsFrame, StandAt, count_in, was_touched_at};
 ghost use Rattle.round_kernel.specs.Changes.{HasMade};
 ghost use Rattle.round_kernel.specs.Suspects.{StandSuspects, stamp};
+ghost use Rattle.change_lists.specs.ChangeLists.{is_changed};
 ghost use Rattle.round_kernel.specs.Flags.{IsFlagged, IsSettled, AreLong, AreSet};
 ghost use Rattle.arc_rows.specs.RowLists.{IsGrouped};
 
-use crate::frame::{Frame, Lists};
+use crate::frame::{Frame, Lists, is_brief};
 use crate::made::Made;
 use arc_rows::Turned;
 use change_lists::{Change, is_other};
@@ -78,7 +79,7 @@ impl Suspects {
         requires suspects { StandSuspects U.answer frame round self.old }
         ensures { StandSuspects U.answer frame.entry (round + 1) self.new }
     {
-        self.move_all(round + 1, made.changes.as_slice());
+        self.move_all(frame, round + 1, made.changes.as_slice());
         if frame.first {
             return;
         }
@@ -89,8 +90,34 @@ impl Suspects {
         }
     }
 
-    // Nodes change in the new view to a round: that they did so.
-    fn move_all(&mut self, round: u32, changes: &[Change])
+    // Nodes change in the new view to a round: that they did so. Where many do, all nodes are said to, which is less work; a brief
+    // step says it early, since hardly anybody asks.
+    fn move_all(&mut self, frame: Frame<'_>, round: u32, changes: &[Change])
+        requires { All (λ c. c.node.0 < length self.old.moved.items) changes.now }
+        ensures size { length self.new.moved.items ≡ length self.old.moved.items }
+        ensures moved { (u : ℕ) → is_changed u changes.now ≡ true → get_or self.new.moved.items u 0 ≡ stamp round }
+        ensures apart { self.new.apart ≡ self.old.apart }
+        ensures turned { self.new.turned ≡ self.old.turned }
+    {
+        if are_many(frame, changes) {
+            self.stamp_everyone(round);
+            return;
+        }
+        self.stamp_each(round, changes);
+    }
+
+    // Each node is said to change to a round.
+    fn stamp_everyone(&mut self, round: u32)
+        ensures size { length self.new.moved.items ≡ length self.old.moved.items }
+        ensures all { (u : ℕ) → u < length self.old.moved.items → get_or self.new.moved.items u 0 ≡ stamp round }
+        ensures apart { self.new.apart ≡ self.old.apart }
+        ensures turned { self.new.turned ≡ self.old.turned }
+    {
+        self.moved.fill(stamp_of(round));
+    }
+
+    // These nodes are said to change to a round.
+    fn stamp_each(&mut self, round: u32, changes: &[Change])
         requires { All (λ c. c.node.0 < length self.old.moved.items) changes.now }
         ensures moved { AreSet (λ u to. to ≡ stamp round) 0 changes.now self.old.moved.items self.new.moved.items }
         ensures apart { self.new.apart ≡ self.old.apart }
@@ -180,6 +207,17 @@ impl Suspects {
     {
         self.apart[node.0 as usize] = is_apart(frame, lists, node);
     }
+}
+
+// Whether so many nodes change that all are stamped: nearly all do, or a sixteenth in a brief step.
+fn are_many(frame: Frame<'_>, changes: &[Change]) -> bool {
+    let nodes = frame.graph.node_count() as usize;
+    let most = if is_brief(frame) {
+        nodes / 16
+    } else {
+        nodes - nodes / 8
+    };
+    changes.len() > most
 }
 
 /// The stamp of a round, which takes a fourth of the memory of its number: rounds that are 256 apart have the same.

@@ -4,6 +4,7 @@ mod cases;
 mod drawn;
 mod feeds;
 mod flows;
+mod followed;
 mod kernel;
 mod plain;
 mod programs;

@@ -4,6 +4,7 @@ pub mod Choosing
 pub mod Results
 pub mod Stepping
 pub mod Turning
+pub mod Moving
 pub mod Showing
 pub mod Holding
 pub mod Behind

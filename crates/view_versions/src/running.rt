@@ -1,16 +1,17 @@
 //! Views that are run one behind the other, and runs that are brought to a matrix in which edges came or went.
 
-ghost use Rattle.std.specs.Prelude.{◌≡◌, ◌+◌, ◌++◌, ◌∷◌, [], map, sum, All, IfOk, OnOk};
+ghost use Rattle.std.specs.Prelude.{◌≡◌, ◌+◌, ◌++◌, ◌∷◌, [], map, sum, All, IfOk, IfSome, OnOk};
 ghost use Rattle.round_kernel.specs.Kernels.{IsKernel};
 ghost use Rattle.view_matrix.specs.Matrices.{IsView};
 ghost use Rattle.view_order.specs.Greedy.{numbers};
 ghost use Rattle.view_segment.specs.Segments.{last_of};
 ghost use Rattle.view_segment.specs.Tasks.{arcs_before, view_arcs, work_of, works_from};
 ghost use Rattle.view_versions.specs.Edits.{AreEdits};
+ghost use Rattle.view_versions.specs.Flags.{AreKept};
 ghost use Rattle.view_versions.specs.Runs.{HoldsRun, IsSetting, StepIn, task_before, task_in};
 ghost use Rattle.view_versions.specs.Touched.{edit_work, edit_works};
 
-use crate::flags::is_turned;
+use crate::flags::{Kept, flags_edited, is_turned};
 use crate::run::ViewRun;
 use crate::step::{Setting, step_behind, step_edited, step_first};
 use graph_model::{EdgeNo, ViewNo};
@@ -107,21 +108,25 @@ pub(crate) fn run_views<U: Updater>(
     Ok(())
 }
 
-// Brings a run to the matrix, from the one with these changes taken back. Where the view turned no edge on or off, it only looks.
+// Brings a run to the matrix, from the one with these changes taken back, and keeps the flags of its view for the next one. Where the
+// view turned no edge on or off, it only looks.
 fn renew<U: Updater>(
     alloc: Global,
     setting: Setting<'_>,
     kernel: &mut Kernel,
     run: &mut ViewRun,
     changes: &[(EdgeNo, bool)],
+    kept: &mut Option<Kept>,
     updater: &mut U,
 ) -> Result<(), NoMemory>
     requires setting { IsSetting setting kernel.old }
     requires edits { AreEdits setting.matrix.now changes.now }
     requires view { IsView setting.matrix.now run.old.view }
     requires holds { HoldsRun (task_before U.answer setting changes.now) run.old }
+    requires kept { IfSome kept.old (AreKept setting.matrix.now) }
     ensures view { run.new.view ≡ run.old.view }
     ensures holds { OnOk result (HoldsRun (task_in U.answer setting.entry) run.new) }
+    ensures kept { OnOk result (IfSome kept.new (AreKept setting.entry.matrix.now)) }
     ensures kernel { OnOk result (IsKernel setting.entry.graph.now kernel.new) }
     ensures rows { kernel.new.rows ≡ kernel.old.rows }
     ensures calls { OnOk result (U.calls updater.new ≡ U.calls updater.old + edit_work (task_before U.answer setting.entry changes.now) (task_in U.answer setting.entry) run.old.view.0) }
@@ -129,17 +134,14 @@ fn renew<U: Updater>(
     if !is_turned(setting.matrix, changes, run.view) {
         return Ok(());
     }
-    let stepped = step_edited(
-        alloc,
-        setting,
-        kernel,
-        &run.history,
-        changes,
-        run.view,
-        updater,
-    )?;
+    let two = flags_edited(alloc, setting.matrix, changes, run.view, kept.take())?;
+    let stepped = step_edited(alloc, setting, kernel, run, changes, &two, updater)?;
     run.history = stepped.history;
     run.outcome = stepped.outcome;
+    *kept = Some(Kept {
+        view: run.view,
+        two,
+    });
     Ok(())
 }
 
@@ -163,8 +165,17 @@ pub(crate) fn renew_all<U: Updater>(
     ensures rows { kernel.new.rows ≡ kernel.old.rows }
     ensures calls { OnOk result (U.calls updater.new ≡ U.calls updater.old + edit_works (task_before U.answer setting.entry changes.now) (task_in U.answer setting.entry) (numbers (map (λ run. run.view) runs.old.items))) }
 {
+    let mut kept = None;
     for place in 0..runs.len() {
-        renew(alloc, setting, kernel, &mut runs[place], changes, updater)?;
+        renew(
+            alloc,
+            setting,
+            kernel,
+            &mut runs[place],
+            changes,
+            &mut kept,
+            updater,
+        )?;
     }
     Ok(())
 }

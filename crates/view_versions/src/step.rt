@@ -7,11 +7,12 @@ ghost use Rattle.round_kernel.specs.Histories.{IsHistory};
 ghost use Rattle.round_kernel.specs.Kernels.{IsKernel};
 ghost use Rattle.view_matrix.specs.Matrices.{IsView};
 ghost use Rattle.view_segment.specs.Tasks.{view_arcs};
-ghost use Rattle.view_versions.specs.Edits.{AreEdits};
-ghost use Rattle.view_versions.specs.Flags.{AreTwo};
+ghost use Rattle.view_versions.specs.Edits.{AreEdits, taken_back};
+ghost use Rattle.view_versions.specs.Flags.{AreTwo, flags_of};
 ghost use Rattle.view_versions.specs.Runs.{IsSetting, StepIn, task_in, task_before};
 
-use crate::flags::{TwoFlags, flags_between, flags_edited};
+use crate::flags::{TwoFlags, flags_between};
+use crate::run::ViewRun;
 use change_lists::History;
 use graph_model::{EdgeNo, Graph, ViewNo};
 use round_kernel::{Behind, Kernel, Plan, Stepped};
@@ -77,28 +78,29 @@ pub(crate) fn step_behind<U: Updater>(
     step_over(alloc, setting, kernel, history, &two, updater)
 }
 
-/// Steps a view from its own version in the matrix with these changes taken back, given its history there. The error is want of
-/// memory.
+/// Steps a view from its own version in the matrix with these changes taken back, given what is kept of it there and the flags of
+/// both. The error is want of memory.
 pub(crate) fn step_edited<U: Updater>(
     alloc: Global,
     setting: Setting<'_>,
     kernel: &mut Kernel,
-    history: &History,
+    run: &ViewRun,
     changes: &[(EdgeNo, bool)],
-    view: ViewNo,
+    two: &TwoFlags,
     updater: &mut U,
 ) -> Result<Stepped, NoMemory>
     requires setting { IsSetting setting kernel.old }
     requires edits { AreEdits setting.matrix.now changes.now }
-    requires view { IsView setting.matrix.now view }
-    requires history { IsHistory U.answer setting.program.now setting.graph.now (Some (view_arcs (task_before U.answer setting changes.now) view.0)) (number_of setting.rounds) history.now }
-    ensures step { IfOk result (StepIn U.answer setting.entry (Some (view_arcs (task_before U.answer setting.entry changes.now) view.0)) (view_arcs (task_in U.answer setting.entry) view.0)) }
+    requires two { AreTwo (length setting.matrix.now.live) two.now }
+    requires old { two.now.old.items ≡ flags_of (taken_back setting.matrix.now changes.now) run.now.view.0 }
+    requires new { two.now.new.items ≡ flags_of setting.matrix.now run.now.view.0 }
+    requires history { IsHistory U.answer setting.program.now setting.graph.now (Some (view_arcs (task_before U.answer setting changes.now) run.now.view.0)) (number_of setting.rounds) run.now.history }
+    ensures step { IfOk result (StepIn U.answer setting.entry (Some (view_arcs (task_before U.answer setting.entry changes.now) run.now.view.0)) (view_arcs (task_in U.answer setting.entry) run.now.view.0)) }
     ensures kernel { OnOk result (IsKernel setting.entry.graph.now kernel.new) }
     ensures rows { kernel.new.rows ≡ kernel.old.rows }
     ensures calls { IfOk result (λ s. U.calls updater.new ≡ U.calls updater.old + s.work) }
 {
-    let two = flags_edited(alloc, setting.matrix, changes, view)?;
-    step_over(alloc, setting, kernel, history, &two, updater)
+    step_over(alloc, setting, kernel, &run.history, two, updater)
 }
 
 // The step from a view to another, both told by flags.

@@ -5,6 +5,7 @@ ghost use Rattle.vertex_lang.specs.Leaves.{IsChecked};
 
 use crate::tests::feeds::{Stand, at_places, at_positions};
 use crate::tests::flows::{Told, are_plain, flow_through};
+use crate::tests::followed::is_followed;
 use crate::tests::kernel::{moves_made, step_through};
 use crate::tests::plain::Made;
 use crate::tests::programs::{Choice, program};
@@ -51,6 +52,8 @@ pub(crate) enum Against<'v> {
     Made(&'v [(Made, Weight)], u64),
     /// The plain runs of the views of a grid of versions and positions.
     Grid,
+    /// What an engine over versions has of views whose edges come and go, both drawn from this seed.
+    Edits(u64),
     /// The plain run of a view, where the starts of plain runs are given.
     OwnStarts(u32),
     /// What is made of the view of the first edge, where these starts are given.
@@ -202,6 +205,7 @@ fn agrees_with<U: Updater>(
             is_made(alloc, program, graph, rounds, want, count, updater)
         }
         Against::Grid => is_right_on_a_grid(alloc, program, graph, rounds, updater),
+        Against::Edits(seed) => is_followed(alloc, program, graph, rounds, seed, updater),
         Against::OwnStarts(bits) => is_own_start(alloc, program, graph, rounds, bits, updater),
         Against::Starts(starts, want) => {
             is_made_from(alloc, program, graph, rounds, starts, want, updater)

@@ -75,6 +75,16 @@ fn is_right_by_places(alloc: Global, seed: u64) -> Result<bool, Fail> {
     )
 }
 
+/// Whether a drawn program makes what an engine over versions has of drawn views whose edges come and go.
+fn is_right_by_edits(alloc: Global, seed: u64) -> Result<bool, Fail> {
+    let mut draws = Draws { state: seed };
+    let choice = drawn_choice(&mut draws);
+    let rounds = draws.draw(4) + 1;
+    let edges = drawn_edges(alloc, &mut draws)?;
+    let against = Against::Edits(seed);
+    agrees(alloc, NODES, edges.as_slice(), choice, rounds, against)
+}
+
 #[test]
 fn drawn_views_one_behind_the_other(rt: HostRuntime) -> Result<(), Fail> {
     for seed in 0..60 {
@@ -87,6 +97,14 @@ fn drawn_views_one_behind_the_other(rt: HostRuntime) -> Result<(), Fail> {
 fn drawn_programs_over_versions_and_positions(rt: HostRuntime) -> Result<(), Fail> {
     for seed in 100..116 {
         assert!(rt; is_right_by_places(rt.alloc(), seed)?);
+    }
+    Ok(())
+}
+
+#[test]
+fn drawn_edits_of_an_engine_over_versions(rt: HostRuntime) -> Result<(), Fail> {
+    for seed in 200..216 {
+        assert!(rt; is_right_by_edits(rt.alloc(), seed)?);
     }
     Ok(())
 }

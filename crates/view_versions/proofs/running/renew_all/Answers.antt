@@ -44,5 +44,6 @@ loop-place-preserved g c =
           subst (HoldsRun old) (sym (get_or-set_other runs place k made d other)) (inv.rest k d (omega (arith, from)) (omega (arith, to, length-set runs place made)));
       kernel = next.kernel;
       rows = c.renew.ensures.rows ∙ inv.rows;
+      kept = next.kept;
       calls = omega (arith, next.calls, inv.calls, more, ap (λ (v : ViewNo). edit_work old new v.0) at);
     }

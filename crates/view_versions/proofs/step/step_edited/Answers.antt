@@ -6,16 +6,18 @@ use Rattle.view_versions.specs.Flags.{AreTwo}
 use Rattle.view_versions.proofs.step.step_edited.Goals as goal
 
 pub step_over-requires-clause-two : goal.step_over-requires-clause-two
-step_over-requires-clause-two g c = subst (λ n. AreTwo n c.in_ok-two.two) c.requires.setting.matrix c.in_ok-two.ensures.two
+step_over-requires-clause-two g c = subst (λ n. AreTwo n c.args.two.now) c.requires.setting.matrix c.requires.two
 
 pub step_over-requires-clause-history : goal.step_over-requires-clause-history
 step_over-requires-clause-history g c =
     let m = c.args.setting.matrix.now in
-    history-chosen g.U.Updater.answer c.args.setting c.args.kernel.now c.requires.setting (taken_back m c.args.changes.now) c.args.view.0 c.in_ok-two.two.old.items c.args.history.now
-    (former-size m c.args.changes.now c.requires.edits ∙ c.requires.setting.matrix) c.in_ok-two.ensures.old c.requires.history
+    history-chosen g.U.Updater.answer c.args.setting c.args.kernel.now c.requires.setting (taken_back m c.args.changes.now) c.args.run.now.view.0 c.args.two.now.old.items c.args.run.now.history
+    (former-size m c.args.changes.now c.requires.edits ∙ c.requires.setting.matrix) c.requires.old c.requires.history
 
 pub returns-clause-step : goal.returns-clause-step
 returns-clause-step g c =
     let m = c.args.setting.matrix.now in
-    later-chosen g.U.Updater.answer c.args.setting c.args.kernel.now c.requires.setting (taken_back m c.args.changes.now) m c.args.view.0 c.args.view.0 c.in_ok-two.two.old.items c.in_ok-two.two.new.items c.step_over.result
-    (former-size m c.args.changes.now c.requires.edits ∙ c.requires.setting.matrix) c.requires.setting.matrix c.in_ok-two.ensures.old c.in_ok-two.ensures.new c.step_over.ensures.step
+    let v = c.args.run.now.view.0 in
+    let two = c.args.two.now in
+    later-chosen g.U.Updater.answer c.args.setting c.args.kernel.now c.requires.setting (taken_back m c.args.changes.now) m v v two.old.items two.new.items c.step_over.result
+    (former-size m c.args.changes.now c.requires.edits ∙ c.requires.setting.matrix) c.requires.setting.matrix c.requires.old c.requires.new c.step_over.ensures.step

@@ -73,6 +73,6 @@ returns-clause-at g c =
     (c.in_ok-watched.ensures.size ∙ count)
     c.in_ok-watched.ensures.tails
     (told-grouped (λ (a : Arc). a.tail.0) f.graph.now f.rows.now.by_head f.turned.now f.first f.old.now f.new.now c.in_ok-turned.turned n count c.in_ok-turned.ensures.rows c.in_ok-turned.ensures.same c.requires.frame.arcs c.requires.frame.turned)
-    (λ e. c.may_keep-may.ensures (c.in_ok-alike.ensures.only e))
+    (λ e. c.keeps_messages-may.ensures (c.in_ok-alike.ensures.only e))
     (sent-at lists.alike f.program.now f.graph.now _ _ _ _ _ _ (sym c.deref-2.ensures.value) (sym (c.as_slice-values.ensures ∙ c.deref.ensures)) refl c.in_ok-alike.ensures.sent)
     (subst (λ (k : ℕ). IsQueue k c.in_ok-queue.queue) count c.in_ok-queue.ensures.queue)

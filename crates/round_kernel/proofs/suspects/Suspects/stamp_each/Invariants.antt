@@ -1,6 +1,6 @@
 use Rattle.std.proofs.Common.{◌≡◌, take}
 use Rattle.round_kernel.specs.Flags.{AreSet}
-use Rattle.round_kernel.proofs.suspects.Suspects.move_all.Given as goal
+use Rattle.round_kernel.proofs.suspects.Suspects.stamp_each.Given as goal
 
 abbrev pub invariant-loop-change : goal.invariant-loop-change
 invariant-loop-change l = record {

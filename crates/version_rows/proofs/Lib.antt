@@ -1,0 +1,4 @@
+mod Changed
+mod Counts
+mod Small
+mod Within
