@@ -4,6 +4,7 @@
     tests/gate_minutes.py record FILE COMMAND..   runs a command, as `rt ci` or `rt must-fail NAME`, and notes in FILE what each of its provers took
     tests/gate_minutes.py watch FILE PROCESS      notes it of the provers below a process, until it is told to end
     tests/gate_minutes.py table FILE..            prints docs/ARCHITECTURE.md's table of what was noted
+    tests/gate_minutes.py program FILE..          prints what the proofs of the rooms took that the program stands on, and the longest chain of them
     tests/gate_minutes.py edits FILE..            prints what each edit took
 
 It looks twice a second at the processes below the command. Where several files are given their rooms are put together: of a room's proof,
@@ -140,9 +141,16 @@ def minutes_in(files):
     return whole, edits
 
 
-def rooms_here():
+def stands_on():
+    """Returns what each room stands on, in the order of crates.txt."""
     with open(f"{TOP}/crates.txt", encoding="utf-8") as lines:
-        return [it.split(":")[0].split()[0] for it in lines if ":" in it.split("#")[0]]
+        rooms = [it.split(":") for it in lines if ":" in it.split("#")[0]]
+    names = {room.strip() for room, _ in rooms}
+    return {room.strip(): [it for it in lower.split() if it in names] for room, lower in rooms}
+
+
+def rooms_here():
+    return list(stands_on())
 
 
 def row(name, minutes):
@@ -170,6 +178,25 @@ def table(files):
         print(f"| {text} | {ratios[name]:.2f} | {BOUNDS[name]} |")
 
 
+def program(files):
+    whole, _ = minutes_in(files)
+    lower = stands_on()
+    inside, left = set(), ["surge"]
+    while left:
+        room = left.pop()
+        inside.add(room)
+        left += [it for it in lower[room] if it not in inside]
+    proofs = {it: whole.get(it, {}).get("proof", 0) for it in lower if it in inside}
+    chains = {}
+    for it in proofs:
+        longest = max((chains[below] for below in lower[it]), default=(0, []))
+        chains[it] = longest[0] + proofs[it], [*longest[1], it]
+    for it in sorted(proofs, key=lambda it: -proofs[it]):
+        print(f"{proofs[it]:6.1f}  {it}")
+    print(f"{sum(proofs.values()):6.1f}  all {len(proofs)} rooms")
+    print(f"{chains['surge'][0]:6.1f}  the longest chain: {' '.join(chains['surge'][1])}")
+
+
 def edit_names(room):
     folder = f"{TOP}/crates/{room}/must-fail"
     return sorted(it[: -len(".edit")] for it in os.listdir(folder) if it.endswith(".edit")) if os.path.isdir(folder) else []
@@ -193,7 +220,7 @@ def main(words):
         return record(words[1], words[2:])
     if len(words) == 3 and words[0] == "watch":
         return watch(*words[1:])
-    shown = {"table": table, "edits": edits}
+    shown = {"table": table, "program": program, "edits": edits}
     if len(words) >= 2 and words[0] in shown:
         shown[words[0]](words[1:])
         return 0

@@ -35,7 +35,7 @@ def main():
     with open(f"{TOP}/README.md", encoding="utf-8") as it:
         lines = it.read().split("\n")
     print('.TH SURGE 1\n.SH NAME\nsurge \\- one graph program on many filtered views of one graph, each printed table proved')
-    print(".SH SYNOPSIS\n.B surge\n(\\-\\-script FILE | \\-\\-sample N) [\\-\\-mode run|check|summary] [\\-\\-turns N]\n.SH OPTIONS")
+    print(".SH SYNOPSIS\n.B surge\n(\\-\\-script FILE | \\-\\-sample N | \\-\\-replay FILE) [\\-\\-mode run|check|summary|changes] [\\-\\-turns N]\n.SH OPTIONS")
     for option, meaning in rows_under(lines, "| Option |"):
         print(f".TP\n{plain(option)}\n{plain(meaning)}")
     print(".SH EXIT STATUS")

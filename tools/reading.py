@@ -12,9 +12,10 @@ import zlib
 
 from gvdl import script_of
 
-# COLLECTION.VIEW, the call in its canonical form, and how the run of the view ended; with the mode `summary` what the table holds.
+# COLLECTION.VIEW, the call in its canonical form, and how the run of the view ended; with the mode `summary` what the table holds. With the
+# mode `changes` the word `change` begins what holds the rows alone that differ from the table before.
 HEAD = re.compile(
-    r"view (?P<collection>[A-Za-z_][\w-]*)\.(?P<view>[A-Za-z_][\w-]*) (?P<program>.+?) "
+    r"(?P<word>view|change) (?P<collection>[A-Za-z_][\w-]*)\.(?P<view>[A-Za-z_][\w-]*) (?P<program>.+?) "
     r"(?P<outcome>settled [0-9]+|after [0-9]+|phases [0-9]+|unsettled)"
     r"(?P<summary> edges (?P<edges>[0-9]+)(?: values (?P<values>[0-9]+) sum (?P<sum>-?[0-9]+))?)?",
     re.ASCII,
@@ -101,7 +102,7 @@ class Part:
         self.collection = self.view = self.program = self.outcome = self.position = self.name = None
         self.edges = self.values = self.sum = self.total = self.length = self.by = self.added = None
         for key, value in head.groupdict().items():
-            if key != "summary":
+            if key not in ("summary", "word"):
                 is_number = key in ("edges", "values", "sum", "total", "length") and value is not None
                 is_property = key in ("by", "added") and value is not None
                 setattr(self, key, int(value) if is_number else bare_name(value) if is_property else value)
@@ -116,7 +117,7 @@ class Part:
 def part_at(place, line):
     """The part that begins with this line."""
     head = HEAD.fullmatch(line)
-    if head:
+    if head and not (head["summary"] and head["word"] == "change"):
         return Part("summary" if head["summary"] else "table", place, head)
     for kind, form in HEADS:
         head = form.fullmatch(line)
@@ -174,23 +175,64 @@ def rows_of(part, lines, name):
     raise BadLine(f"{name}: the text ends inside what began at {part.place.rpartition(', ')[2]}")
 
 
+class Before:
+    """The table that was read last, which a change is told against: arrays of ids and values, NONE for none; or none at all."""
+
+    def __init__(self):
+        self.ids = self.values = None
+
+    def noted(self, rows):
+        """The same rows; once all were read they are the table before."""
+        ids, values = array.array("q"), array.array("q")
+        for node, value in rows:
+            ids.append(node)
+            values.append(NONE if value is None else value)
+            yield node, value
+        self.ids, self.values = ids, values
+
+    def changed(self, part, rows):
+        """The rows of the table before with these put in. Each has an id of that table, and another value than there."""
+        if self.ids is None or part.outcome == "unsettled":
+            raise BadLine(f"{part.place}: a change stands behind a table and is one, and neither is unsettled")
+        ids, values, at = self.ids, self.values, 0
+        for node, value in rows:
+            while at < len(ids) and ids[at] < node:
+                yield ids[at], None if values[at] == NONE else values[at]
+                at += 1
+            if at == len(ids) or ids[at] != node:
+                raise BadLine(f"{part.place}: the table before has no node {node}, which the change {part.title} has")
+            if values[at] == (NONE if value is None else value):
+                raise BadLine(f"{part.place}: the node {node} had this value before, so it is no change")
+            yield node, value
+            at += 1
+        for node, value in zip(ids[at:], values[at:]):
+            yield node, None if value == NONE else value
+
+
 def parts_of(files):
-    """All that these files hold, one part after the other, read as it is asked for."""
+    """All that these files hold, one part after the other, read as it is asked for. A change is told as the table that it makes."""
     positions = {}
     for path in files:
-        name = named(path)
+        name, before = named(path), Before()
         with opened(path) as file:
             lines = lines_of(file, name)
             for number, line in lines:
-                part = part_at(f"{name}, line {number}", line.rstrip("\n"))
+                line = line.rstrip("\n")
+                part = part_at(f"{name}, line {number}", line)
                 if part.collection is not None:
                     views = positions.setdefault(part.collection, {})
                     part.position = views.setdefault(part.view, len(views) + 1)
                 if part.kind != "summary":
                     part.rows = rows_of(part, lines, name)
+                if line.startswith("change "):
+                    part.rows = before.changed(part, part.rows)
+                if part.kind == "table":
+                    part.rows = before.noted(part.rows)
                 yield part
                 for _ in part.rows:
                     pass
+                if part.kind != "table" or part.outcome == "unsettled":
+                    before = Before()
 
 
 def bare(call):

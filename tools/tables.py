@@ -17,7 +17,8 @@ Rows are written as they are read: where a line is bad, those before it stand al
   --show tree     what 'show tree' printed, as collection,step,view,parent,difference
   --show aggregate  what aggregates printed, as collection,view,by,added,source,destination,edges,sum
 
-What the mode 'summary' prints becomes collection,view,position,program,outcome,edges,values,sum.
+What the mode 'summary' prints becomes collection,view,position,program,outcome,edges,values,sum. What the mode 'changes' prints
+is read as the tables that it makes.
 
   ./surge --script examples/by_year/s.gv | tools/tables.py > long.csv
   ./surge --script examples/by_year/s.gv | tools/tables.py --wide --script examples/by_year/s.gv > wide.csv

@@ -83,7 +83,7 @@ def compiled(source, work):
 
 def cpp_programs(peers, sides, work):
     """The C++ programs that are at hand, by name."""
-    sources = {"plain": os.path.join(HERE, "plain.cpp")}
+    sources = {name: os.path.join(HERE, f"{name}.cpp") for name in ("plain", "tables")}
     for name, source in HANDED_IN.items():
         if peers and os.path.exists(os.path.join(peers, source)):
             sources[name] = os.path.join(peers, source)
@@ -130,18 +130,32 @@ def measure(words, folder, limit):
     return (figures, printed) if status == 0 else None
 
 
+def make_files(case, program, folder):
+    """The files that the sides of a case read, as the program prints them."""
+    for name, words in case.made:
+        with open(os.path.join(folder, name), "wb") as to:
+            subprocess.run([program, *words], cwd=folder, stdout=to, check=True)
+
+
+def words_of(name, case, program, folder):
+    """The words of a C++ program."""
+    if name == "tables":
+        return [program, os.path.join(folder, "tables.txt")]
+    return [program, folder, case.program, "run"] if case.workload else [program, "--sample", "1"]
+
+
 def sides_of(case, program, cpp, folder):
     """Each side's words, by name: those of the program first."""
     sides = {name: [program, *words] for name, words in case.ours.items()}
     for name in case.peers:
         if name not in cpp or (name == "plain" and case.program not in ("hops", "dist", "aggregate")):
             continue
-        sides[name] = [cpp[name], folder, case.program, "run"] if case.workload else [cpp[name], "--sample", "1"]
+        sides[name] = words_of(name, case, cpp[name], folder)
     return sides
 
 
 def run_case(case, sides, folder, rounds, long, limit):
-    """The figures of each side that ended well, and whether all did and printed the same."""
+    """The figures of each side that ended well, and whether all did and printed the same, each time, or as many texts as sides."""
     found, printed, left, spent = {}, set(), dict(sides), 0.0
     for _round in range(case.rounds or rounds):
         if spent > long:
@@ -158,7 +172,7 @@ def run_case(case, sides, folder, rounds, long, limit):
             found[name] = found[name].least(figures) if name in found else figures
     for name in sides.keys() - left.keys():
         found.pop(name, None)
-    return found, len(printed) == 1 and len(left) == len(sides)
+    return found, len(printed) == (1 if case.alike else len(sides)) and len(left) == len(sides)
 
 
 def least_peak():
@@ -210,12 +224,13 @@ def bench(asked):
     head(list(cpp))
     for case in chosen(asked):
         folder = data_of(case.workload, work)
+        make_files(case, program, folder)
         sides = sides_of(case, program, cpp, folder)
         found, agree = run_case(case, sides, folder, asked.rounds, asked.long, asked.limit)
         for side in found:
             row(case, side, found, list(cpp))
         if not agree:
-            print(f"{case.name} {case.program}: the sides don't all print the same", file=sys.stderr)
+            print(f"{case.name} {case.program}: the sides don't all print what they should", file=sys.stderr)
         same = same and agree
     return same
 

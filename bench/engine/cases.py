@@ -22,7 +22,8 @@ class Bound:
 
 @dataclass(frozen=True)
 class Case:
-    """Sides that print the same: those of the program by name, with their words, and the C++ programs."""
+    """Sides that print the same, or don't: those of the program by name, with their words, and the C++ programs. Before them the
+    program prints the files that they read, by name, with its words."""
 
     name: str
     program: str
@@ -31,6 +32,8 @@ class Case:
     bounds: tuple
     peers: tuple = ("plain", "scratch", "histories-plain", "histories")
     rounds: int = 0
+    alike: bool = True
+    made: tuple = ()
 
 
 def script(program, split="", *more):
@@ -69,6 +72,19 @@ def aggregates():
     return Case("aggregates", "aggregate", "aggregates", ours, (Bound("surge", "seconds", 3, "plain"),), ("plain",))
 
 
+def changes(program):
+    """Tables as a change text, and in full."""
+    ours = {"mode changes": (*script(program), "--mode", "changes"), "mode run": script(program)}
+    return Case("changes", program, "windows-mid", ours, (Bound("mode changes", "seconds", 1, "mode run"),), (), alike=False)
+
+
+def replayed(program):
+    """The tables of a change text, and the same tables read, judged and written in C++."""
+    made = (("changes.txt", (*script(program), "--mode", "changes")), ("tables.txt", script(program)))
+    ours = {"replay": ("--replay", "changes.txt")}
+    return Case("replay", program, "windows-mid", ours, (Bound("replay", "seconds", 1.5, "tables"),), ("tables",), made=made)
+
+
 def sample():
     ours = {"surge": ("--sample", "1", "--mode", "summary")}
     return Case("sample", "dist", "", ours, (Bound("surge", "seconds", 3, "plain"),), ("plain",), rounds=30)
@@ -94,5 +110,7 @@ def all_cases():
         for program in ("hops", "wcc", "dist"):
             yield edits(name, program, "--mode", "summary")
     yield aggregates()
+    yield changes("hops")
+    yield replayed("hops")
     for program in ("hops", "dist", "wcc"):
         yield shared("windows-large", program, factors[program], by_memory)

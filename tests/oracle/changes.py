@@ -9,6 +9,8 @@ python3 changes.py --table  writes the table that stands in the room `room_rows`
 import re
 import sys
 
+MOST_BYTES = 2**28
+
 NUMBER = rb"(0|[1-9][0-9]*)"
 OPENING = re.compile(rb"(view|change) ([^\n]+) ((?:settled|after|phases) " + NUMBER + rb"|unsettled)")
 ROW = re.compile(NUMBER + rb",(-|-?" + NUMBER + rb")")
@@ -37,41 +39,43 @@ def row(line):
 
 
 def begun(lines):
-    """The tables of the lines of a change text, and whether the last of them is ended; or nothing where they begin none.
+    """The tables of the lines of a change text, and whether the last of them is ended; or the number of the first line that
+    no change text has behind those before it.
 
     A table is what it is of, how its run ended, and its rows by their ids."""
     tables = []
     kind = rows = None
-    for line in lines:
+    for number, line in enumerate(lines, 1):
         if rows is None:
             said = opening(line)
             if said is None:
-                return None
+                return number
             kind, head, outcome = said
             if kind == b"change" and (not tables or b"unsettled" in (tables[-1][1], outcome)):
-                return None
-            rows = {}
+                return number
+            rows, last = {}, -1
         elif line == b"end":
             before = tables[-1][2] if kind == b"change" else {}
             tables.append((head, outcome, before | rows))
             rows = None
         else:
             pair = row(line)
-            if pair is None or outcome == b"unsettled" or any(pair[0] <= other for other in rows):
-                return None
+            if pair is None or outcome == b"unsettled" or pair[0] <= last:
+                return number
             if kind == b"change" and tables[-1][2].get(pair[0], pair[1]) == pair[1]:
-                return None
-            rows[pair[0]] = pair[1]
+                return number
+            last = pair[0]
+            rows[last] = pair[1]
     return tables, rows is None
 
 
 def read(text):
     """The tables of a text, or its first bad line."""
     *lines, rest = text.split(b"\n")
-    for n in range(1, len(lines) + 1):
-        if begun(lines[:n]) is None:
-            return n
-    tables, whole = begun(lines)
+    answer = begun(lines)
+    if isinstance(answer, int):
+        return answer
+    tables, whole = answer
     return tables if whole and rest == b"" else len(lines) + 1
 
 

@@ -12,6 +12,7 @@ import sys
 import tempfile
 from collections import namedtuple
 
+import changes
 import check_faults
 import data_faults
 import printing
@@ -21,10 +22,10 @@ from sample import SCRIPT, write_sample
 from script import Insert, script_of
 
 Answer = namedtuple("Answer", "status out err")
-Asked = namedtuple("Asked", "script sample mode turns")
+Asked = namedtuple("Asked", "script sample mode turns replay", defaults=(None,))
 
-USAGE = "usage: surge (--script FILE | --sample N) [--mode run|check|summary] [--turns N]"
-OPTIONS = ("--script", "--sample", "--mode", "--turns")
+USAGE = "usage: surge (--script FILE | --sample N | --replay FILE) [--mode run|check|summary|changes] [--turns N]"
+OPTIONS = ("--script", "--sample", "--replay", "--mode", "--turns")
 
 
 class Refused(Exception):
@@ -64,11 +65,20 @@ def is_number(text):
 def asked_by(words):
     """What the words ask for, or nothing where they are not of the form."""
     texts = texts_of(words)
+    if texts is not None and "--replay" in texts:
+        return Asked(None, None, "run", None, texts["--replay"]) if list(texts) == ["--replay"] and texts["--replay"] else None
     if texts is None or ("--script" in texts) == ("--sample" in texts):
         return None
     asked = Asked(texts.get("--script"), texts.get("--sample"), texts.get("--mode", "run"), texts.get("--turns"))
     are_numbers = all(it is None or is_number(it) for it in (asked.sample, asked.turns))
-    return asked if asked.script != "" and asked.mode in ("run", "check", "summary") and are_numbers else None
+    return asked if asked.script != "" and asked.mode in ("run", "check", "summary", "changes") and are_numbers else None
+
+
+def asked_for(words):
+    asked = asked_by(words)
+    if asked is None:
+        raise Refused(2, USAGE)
+    return asked
 
 
 # ---- Files
@@ -125,11 +135,16 @@ def within(folder, name):
 # ---- Answers
 
 
-def judged(words, folder):
-    """What these words ask for in a folder, the script, and what it loads: all without a fault."""
-    asked = asked_by(words)
-    if asked is None:
-        raise Refused(2, USAGE)
+def replayed(name):
+    """The answer to words that name a change text."""
+    tables = changes.read(fetched("changes", name, changes.MOST_BYTES, (10, "replay: TooLarge")))
+    if isinstance(tables, int):
+        raise Refused(10, f"replay: line {tables}")
+    return Answer(0, changes.tables_text(tables), b"")
+
+
+def judged(asked, folder):
+    """The script that these words name in a folder, and what it loads: all without a fault."""
     if asked.sample is None:
         script = read_script(within(folder, asked.script))
         loaded = read_data(script, folder)
@@ -142,7 +157,7 @@ def judged(words, folder):
     if fault:
         place = f"statement {fault.statement}: " if fault.statement else ""
         raise Refused(5, f"script: {place}{fault.kind}")
-    return asked, script, loaded
+    return script, loaded
 
 
 def done(asked, script, loaded):
@@ -150,14 +165,17 @@ def done(asked, script, loaded):
     if asked.mode == "check":
         text = printing.canonical(script)
     else:
-        text = Oracle(script, loaded.graph, asked.mode == "summary").text()
+        text = Oracle(script, loaded.graph, asked.mode).text()
     return Answer(0, text.encode("utf-8"), b"")
 
 
 def answer(words, folder="."):
     """What surge answers to these words in a folder."""
     try:
-        return done(*judged(words, folder))
+        asked = asked_for(words)
+        if asked.replay is not None:
+            return replayed(within(folder, asked.replay))
+        return done(asked, *judged(asked, folder))
     except Refused as refused:
         return refused.answer()
 

@@ -468,14 +468,19 @@ LARGE = [kept_added, names_added, filled_up]
 
 SCRIPT_WORDS = [["--script", "s.gv"], ["--script=s.gv"], ["--script", "./s.gv"]]
 MODE_WORDS = [[], [], [], [], ["--mode", "run"], ["--mode", "summary"], ["--mode=summary"], ["--mode", "check"], ["--mode=check"]]
+MODE_WORDS += [["--mode", "changes"], ["--mode=changes"]]
 TURN_WORDS = [[], [], [], ["--turns", "7"], ["--turns=0"], ["--turns", "18446744073709551615"]]
 OTHER_WORDS = ["--script", "--sample", "--mode", "--turns", "--script=", "--mode=", "--turns=", "--sample=", "--help", "--version", "-h", "-V", "--", "-"]
 OTHER_WORDS += ["", "s.gv", "run", "check", "summary", "Run", "--Script", "--scrip", "-script", "--mode=fly", "--turns=-1", "--turns=x", "--turns=+1"]
 OTHER_WORDS += ["--turns=18446744073709551616", "--turns=00000000000000000001", "--turns=000000000000000000001", "--script=s.gv", "--script=-x", "--=", "="]
 OTHER_WORDS += ["--script==s.gv", "--script=a=b", "--mode= run", "é", "--é", "--script=é.gv", "--turns=1 ", "--sample=1", "--sample=x", "--script=.", "--script=no.gv"]
+OTHER_WORDS += ["--replay", "--replay=", "--replay=s.gv", "--replay=.", "--replay=no", "--Replay", "changes", "--mode=changes"]
+REPLAY_WORDS = [["--replay", "s.gv"], ["--replay=e.csv"], ["--replay", "no"]]
 
 
 def words_drawn(draw):
+    if draw.randint(0, 49) == 0:
+        return list(draw.choice(REPLAY_WORDS))
     parts = [draw.choice(SCRIPT_WORDS), draw.choice(MODE_WORDS), draw.choice(TURN_WORDS)]
     draw.shuffle(parts)
     return [word for part in parts for word in part]

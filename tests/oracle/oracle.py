@@ -1,7 +1,7 @@
 #!/usr/bin/env python3
 """What surge has to print, worked out plainly and slowly from what docs/LANGUAGE.md and docs/DATA.md say.
 
-    oracle.py (--script FILE | --sample N) [--mode run|check|summary] [--turns N]
+    oracle.py (--script FILE | --sample N | --replay FILE) [--mode run|check|summary|changes] [--turns N]
 
 It knows no faults: the script and its files are taken to be right (faults.py knows them). Each view is run alone by synchronous
 rounds; order, splits and turns change nothing but what `show` prints. Python's standard library is all that it needs.
@@ -12,6 +12,7 @@ import sys
 import tempfile
 from collections import namedtuple
 
+import changes
 import printing
 from graph import graph_of
 from order import distances, greedy, tree_order
@@ -46,10 +47,12 @@ class Views:
 class Oracle:
     """Does the statements of a script one after the other, and keeps what was written."""
 
-    def __init__(self, script, graph, is_summary):
+    def __init__(self, script, graph, mode):
         self.script = script
         self.graph = graph
-        self.is_summary = is_summary
+        self.mode = mode
+        # (in a change text, the values of the table before, of the same run in the same statement)
+        self.before = None
         built_in = script_of(b"load graph G nodes 'n' edges 'e';" + BUILT_IN.encode())
         self.programs = {it.name: it for it in built_in.statements}
         self.rules = {script.graph: []}
@@ -66,6 +69,8 @@ class Oracle:
         return "".join(self.written)
 
     def do(self, statement):
+        if self.mode == "changes" and isinstance(statement, (ShowOrder, ShowWork, ShowTree, Aggregate)):
+            return
         if isinstance(statement, View):
             self.rules[statement.name] = [*self.rules[statement.base], statement.rule]
         elif isinstance(statement, Collection):
@@ -131,8 +136,7 @@ class Oracle:
             order = greedy(views.edges, kept.order[-1] if kept.order else None, new)
         self.run_alone(kept, order)
         kept.order.extend(order)
-        for view in new:
-            self.table(kept, view)
+        self.tables(kept, new)
 
     def run_alone(self, kept, views):
         meant = self.meant(kept.statement.call)
@@ -147,8 +151,13 @@ class Oracle:
         for kept in self.kept:
             views = range(len(self.collections[kept.collection].names))
             self.run_alone(kept, views)
-            for view in views:
-                self.table(kept, view)
+            self.tables(kept, views)
+
+    def tables(self, kept, views):
+        """The tables of a run in a statement."""
+        self.before = None
+        for view in views:
+            self.table(kept, view)
 
     def table(self, kept, view):
         views, statement = self.collections[kept.collection], kept.statement
@@ -156,13 +165,17 @@ class Oracle:
             answer = kept.lones[view].answer(statement.within, statement.rounds)
         else:
             answer = phases_answer(kept.lones[view], statement.rounds, statement.phases)
-        head = f"view {kept.collection}.{views.names[view]} {printing.call(statement.call)} {answer.outcome}"
-        if self.is_summary:
-            self.written.append(head + summary(len(views.edges[view]), answer.values) + "\n")
+        head = f"{kept.collection}.{views.names[view]} {printing.call(statement.call)} {answer.outcome}"
+        if self.mode == "summary":
+            self.written.append(f"view {head}" + summary(len(views.edges[view]), answer.values) + "\n")
             return
-        lines = [head]
+        nodes, word = self.graph.by_id, "view"
+        if self.mode == "changes" and self.before is not None and answer.values is not None:
+            nodes, word = [node for node in nodes if answer.values[node] != self.before[node]], "change"
+        lines = [f"{word} {head}"]
         if answer.values is not None:
-            lines += [f"{self.graph.ids[node]},{shown(answer.values[node])}" for node in self.graph.by_id]
+            lines += [f"{self.graph.ids[node]},{shown(answer.values[node])}" for node in nodes]
+        self.before = answer.values
         self.written.append("".join(line + "\n" for line in [*lines, "end"]))
 
     def append(self, statement):
@@ -257,13 +270,21 @@ def words(given):
     source = parser.add_mutually_exclusive_group(required=True)
     source.add_argument("--script")
     source.add_argument("--sample", type=int)
-    parser.add_argument("--mode", choices=("run", "check", "summary"), default="run")
+    source.add_argument("--replay")
+    parser.add_argument("--mode", choices=("run", "check", "summary", "changes"), default="run")
     parser.add_argument("--turns", type=int)
     # (a last word of two dashes ends the options, and Python's releases differ in whether they drop it)
     return parser.parse_args(given[:-1] if given[-1:] == ["--"] else given)
 
 
 def answer(asked):
+    if asked.replay is not None:
+        with open(asked.replay, "rb") as file:
+            return changes.tables_text(changes.read(file.read()))
+    return of_script(asked).encode("utf-8")
+
+
+def of_script(asked):
     if asked.sample is None:
         with open(asked.script, "rb") as file:
             script = script_of(file.read())
@@ -275,7 +296,7 @@ def answer(asked):
             graph = graph_of(f"{folder}/nodes.csv", f"{folder}/edges.csv")
     if asked.mode == "check":
         return printing.canonical(script)
-    return Oracle(script, graph, asked.mode == "summary").text()
+    return Oracle(script, graph, asked.mode).text()
 
 
 def main():
@@ -283,7 +304,7 @@ def main():
         text = answer(words(sys.argv[1:]))
     except NotAScript as why:
         sys.exit(f"oracle.py: this is no script: {why}")
-    sys.stdout.buffer.write(text.encode("utf-8"))
+    sys.stdout.buffer.write(text)
 
 
 if __name__ == "__main__":

@@ -142,11 +142,14 @@ def steps_of(script, loaded):
 def wanted(words, folder):
     """The words to be run in a folder, and what has to be answered: what would run too long for the oracle is only checked."""
     try:
-        asked, script, loaded = faults.judged(words, folder)
+        asked = faults.asked_for(words)
+        if asked.replay is not None:
+            return words, faults.answer(words, folder)
+        script, loaded = faults.judged(asked, folder)
     except faults.Refused as refused:
         return words, refused.answer()
     if asked.mode != "check" and (asked.sample is not None or steps_of(script, loaded) > MOST_STEPS):
-        words = ["--mode=check", *(it for it in words if it not in ("run", "summary", "--mode", "--mode=run", "--mode=summary"))]
+        words = ["--mode=check", *(it for it in words if it not in ("run", "summary", "changes", "--mode", "--mode=run", "--mode=summary", "--mode=changes"))]
         asked = asked._replace(mode="check")
     return words, faults.done(asked, script, loaded)
 
@@ -171,7 +174,7 @@ def difference(want, got):
 def kind_of(answer, words):
     """The status, and the kind of fault or the mode."""
     if answer.status == 0:
-        return 0, next((it for it in ("check", "summary") if f"--mode={it}" in words or it in words), "run")
+        return 0, next((it for it in ("check", "summary", "changes") if f"--mode={it}" in words or it in words), "tables")
     said = answer.err.decode().strip().split(": ")
     return answer.status, said[1] if answer.status in (2, 6, 7, 8) else said[-1]
 

@@ -5,9 +5,10 @@ edges that come and go, aggregates, trees and phases.
     tests/oracle/random_scripts.py [--count 2000] [--seed 1] [--form 1|2] [--counts] [--binary crates/surge/out/surge]
 
 Each script has a graph of up to seven nodes, a collection of views, a run or two that are kept, perhaps an append, and shows; every
-second one is of form 2. Output, line on standard error and status are compared. The last line counts what agreed; the status is 1
-where something did not, and the folder of the first such script is named. `--form` draws scripts of that form alone; `--counts`
-tells how many statements of each kind there were, and how the scripts ended.
+second one is of form 2. Output, line on standard error and status are compared; a change text is replayed too, and has to give what
+the oracle writes for the script without its shows and aggregates. The last line counts what agreed; the status is 1 where something
+did not, and the folder of the first such script is named. `--form` draws scripts of that form alone; `--counts` tells how many
+statements of each kind there were, and how the scripts ended.
 """
 import argparse
 import os
@@ -126,7 +127,21 @@ def ran(words, folder):
 def wanted(words, folder):
     """The status and both streams by the oracle, which answers scripts without faults alone."""
     os.chdir(folder)
-    return 0, oracle.answer(oracle.words(words)).encode("utf-8"), b""
+    return 0, oracle.answer(oracle.words(words)), b""
+
+
+def comes_back(binary, folder, text, changes):
+    """Whether the program makes of a script's change text the tables that the script has without its shows and aggregates."""
+    left = [it for it in text.splitlines() if not it.startswith(("show", "aggregate"))]
+    with open(f"{folder}/left.gv", "w", encoding="utf-8") as file:
+        file.write("\n".join(left) + "\n")
+    with open(f"{folder}/changes", "wb") as file:
+        file.write(changes)
+    same = ran([binary, "--replay", "changes"], folder) == wanted(["--script", "left.gv"], folder)
+    if same:
+        os.remove(f"{folder}/left.gv")
+        os.remove(f"{folder}/changes")
+    return same
 
 
 KINDS = {
@@ -183,11 +198,11 @@ def main():
         for name, text in files.items():
             with open(f"{folder}/{name}", "w", encoding="utf-8") as file:
                 file.write(text)
-        mode = draw.choice(["run", "run", "summary"])
+        mode = draw.choice(["run", "run", "summary", "changes", "changes"])
         asked = ["--script", "s.gv", "--mode", mode]
         turned = [*asked, "--turns", str(draw.randint(0, 9))] if draw.randint(0, 1) else asked
         told = wanted(asked, folder)
-        if ran([binary, *turned], folder) != told:
+        if ran([binary, *turned], folder) != told or (mode == "changes" and not comes_back(binary, folder, files["s.gv"], told[1])):
             print(f"not the same: {folder}")
             break
         agreed += 1

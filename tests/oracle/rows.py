@@ -57,7 +57,7 @@ def is_right(folder):
         try:
             got = faults.answer(words)
             # (where there is no fault, oracle.py has to say the same by itself)
-            same = got.status != 0 or got.out == oracle.answer(oracle.words(words)).encode("utf-8")
+            same = got.status != 0 or got.out == oracle.answer(oracle.words(words))
         finally:
             os.chdir("/")
     wanted = (int(text_of(f"{folder}/status", b"0")), text_of(f"{folder}/stdout", b""), text_of(f"{folder}/stderr", b""))

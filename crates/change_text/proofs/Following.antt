@@ -1,5 +1,5 @@
 -- A table's block behind that of the table before.
-use Rattle.std.proofs.Common.{◌≡◌, ◌≢◌, ◌∙◌, ℕ, ◌<◌, ◌≤◌, ◌==◌, Bool, true, false, not, cond, List, [], ◌∷◌, map, filter, get_or, drop, Option, Some, None, All, refl, sym, ap, subst, arith, true≢false, if◌then◌else◌, ◌&&◌}
+use Rattle.std.proofs.Common.{◌≡◌, ◌≢◌, ◌∙◌, ℕ, ◌<◌, Bool, true, false, not, cond, List, [], ◌∷◌, map, filter, get_or, drop, Option, Some, None, All, refl, sym, ap, subst, arith, true≢false, if◌then◌else◌, ◌&&◌}
 use Rattle.std.proofs.lemmas.List.Elements.{All-cons, All-head, All-nil, All-tail, All-weaker}
 use Rattle.graph_model.specs.GraphData.{GraphData, id_of, nodes_by_id}
 use Rattle.graph_model.specs.declared.number.NodeNo.{NodeNo}
@@ -13,8 +13,8 @@ use Rattle.result_tables.specs.declared.table.Table.{Table}
 use Rattle.change_text.specs.declared.kind.Kind.{Kind}
 use Rattle.change_text.specs.declared.kind.Kind.TheVariants as kind
 use Rattle.change_text.specs.declared.row.Row.{Row}
-use Rattle.change_text.specs.Blocks.{Block, Differs, Follows, FollowsAs, HasRows, IsBlock, IsRising, IsRow, put, put_all, rows_after, table_of, value_at}
-use Rattle.change_text.specs.Writing.{block_of, changed_rows, full_of, is_changed, is_shown, kind_behind, row_of, rows_behind, table_rows}
+use Rattle.change_text.specs.Blocks.{Block, Differs, Follows, HasRows, IsBlock, IsRising, IsRow, put, put_all, table_of, value_at}
+use Rattle.change_text.specs.Writing.{block_of, changed_rows, full_of, is_changed, is_shown, row_of, rows_behind, table_rows}
 use Rattle.change_text.specs.Laws.{IsBefore, before_of}
 use Rattle.change_text.proofs.Lines.{row_with}
 use Rattle.change_text.proofs.Rows.{put_here, put_none, put_other, value_here, value_other}

@@ -49,7 +49,7 @@ rows_are graph (outcome.After r) values = lines_of graph values (nodes_by_id gra
 rows_are graph (outcome.Phases r) values = lines_of graph values (nodes_by_id graph.ids)
 rows_are graph outcome.Unsettled values = refl
 
-full_text : (head : List ℕ) (graph : GraphData) (table : Table) → IsTableHead head
+pub full_text : (head : List ℕ) (graph : GraphData) (table : Table) → IsTableHead head
     → table_text head graph table ≡ block_text (record { kind = kind.Full; head = drop 5 head; outcome = table.outcome; rows = table_rows graph table.outcome table.values })
 full_text head graph table is =
     let tail : List ℕ = codes " " ++ (outcome_text table.outcome ++ (line_end ++ (rows graph table.outcome table.values ++ (codes "end" ++ line_end)))) in

@@ -29,6 +29,6 @@ mod write;
 
 pub use changes::{ChangeText, read_changes};
 pub use fault::{ReplayError, ReplayFault, ReplayStop};
-pub use laws::{one_reading, tables_come_back};
+pub use laws::{one_fault, one_reading, tables_are_blocks, tables_come_back};
 pub use tables::replay;
 pub use write::write_change;

@@ -36,3 +36,4 @@ module _ (g h : GraphData) (more : GrowsTo g h) where
   pub same-text : (in_form : Form) (head : List ℕ) (edges : ℕ) (table : Table) → form_text in_form head edges h table ≡ form_text in_form head edges g table
   same-text form.Tables head edges table = ap (λ l. head ++ l) (same-tail table)
   same-text form.Summary head edges table = refl
+  same-text form.Changes head edges table = ap (λ l. head ++ l) (same-tail table)

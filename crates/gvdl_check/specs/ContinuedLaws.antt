@@ -156,7 +156,7 @@ one_meaning g names first second a b same =
     same_value second.program first.program (sym b.2 ∙ ap (λ (call : Call). called g b.0 call.args) same ∙ ap (λ (c : Callable). called g c first.call.args) found ∙ a.2)
 
 -- runs of a plan, whether or not they are told to be edited
-unmarked_runs : (last : ℕ) (numbers : List ℕ) (runs : List RunPlan) → length numbers ≡ length runs → map unmarked (runs_marked last numbers runs) ≡ map unmarked runs
+pub unmarked_runs : (last : ℕ) (numbers : List ℕ) (runs : List RunPlan) → length numbers ≡ length runs → map unmarked (runs_marked last numbers runs) ≡ map unmarked runs
 unmarked_runs last [] [] e = refl
 unmarked_runs last [] (run ∷ runs) e = absurd (omega (arith, e))
 unmarked_runs last (number ∷ numbers) [] e = absurd (omega (arith, e))

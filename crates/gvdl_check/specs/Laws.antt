@@ -11,6 +11,10 @@ use Rattle.gvdl_check.specs.Continued.{IsContinued, SameColumns, Continues}
 use Rattle.gvdl_check.specs.PlanLaws.{plan_sound}
 use Rattle.gvdl_check.specs.NumberLaws.{no_lowest}
 use Rattle.gvdl_check.specs.ContinuedLaws.{plan_continues}
+use Rattle.gvdl_check.specs.NameLines.{PlanNamed}
+use Rattle.gvdl_check.specs.NameLaws.{names_are_lines}
+use Rattle.gvdl_check.specs.Shows.{HasUnshown, without_shows}
+use Rattle.gvdl_check.specs.UnshownLaws.{plan_unshown}
 
 -- the plan of a script fits the graph, and has one step for each statement behind the load
 abbrev pub PlansFit : Type 0
@@ -35,3 +39,18 @@ PlansContinue = (s t : Script) (g h : GraphData) (groups more : List ℕ) (p q :
 
 pub plans_continue : PlansContinue
 plans_continue s t g h groups more p q longer same files first second = plan_continues s t g h groups more p q longer same files first second
+
+-- names in the plan of a script end no line, and numbers of its calls are those of a text
+abbrev pub PlansNameLines : Type 0
+PlansNameLines = (s : Script) (g : GraphData) (groups : List ℕ) (p : Plan) → IsWritten s → plan s g groups ≡ Ok p → PlanNamed p
+
+pub plans_name_lines : PlansNameLines
+plans_name_lines s g groups p written e = names_are_lines s g groups p written e
+
+-- The script without its shows and aggregates has a plan where the script has one: that plan without the steps that show
+-- something.
+abbrev pub PlansWithoutShows : Type 0
+PlansWithoutShows = (s : Script) (g : GraphData) (groups : List ℕ) (p : Plan) → plan s g groups ≡ Ok p → HasUnshown (plan (without_shows s) g groups) p
+
+pub plans_without_shows : PlansWithoutShows
+plans_without_shows s g groups p e = plan_unshown s g groups p e

@@ -22,7 +22,12 @@ pub mod PlanLaws
 pub mod CallLaws
 pub mod WrittenNumbers
 pub mod NumberLaws
+pub mod NameLines
+pub mod WrittenNames
+pub mod NameLaws
 pub mod Continued
 pub mod ExtendLaws
 pub mod ContinuedLaws
+pub mod Shows
+pub mod UnshownLaws
 pub mod Laws

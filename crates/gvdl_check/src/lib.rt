@@ -27,6 +27,8 @@ mod statement;
 mod window;
 
 pub use fault::{CheckFault, StatementFault};
-pub use laws::{plans_continue, plans_fit, plans_hold_no_lowest};
+pub use laws::{
+    plans_continue, plans_fit, plans_hold_no_lowest, plans_name_lines, plans_without_shows,
+};
 pub use plan::{CollectionPlan, OrderRule, Plan, RunPlan, Step, ViewPlan};
 pub use script::check;

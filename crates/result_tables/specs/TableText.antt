@@ -111,6 +111,8 @@ summary_text head edges table = head ++ summary_tail edges table
 
 -- ---- in a form
 
+-- a table that stands alone: in a change text it is a block of all its rows
 abbrev pub form_text : Form → List ℕ → (edges : ℕ) → GraphData → Table → List ℕ
 form_text form.Tables head edges graph table = table_text head graph table
 form_text form.Summary head edges graph table = summary_text head edges table
+form_text form.Changes head edges graph table = table_text head graph table

@@ -7,4 +7,7 @@ pub enum Form {
     Tables,
     /// One line for the whole table: how many edges the view has, how many nodes have a value, and the sum of these.
     Summary,
+    /// A block of a change text: a line for each node whose value differs from that in the table before. A table alone is a
+    /// block with a line for each node.
+    Changes,
 }

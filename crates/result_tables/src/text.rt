@@ -118,6 +118,7 @@ pub(crate) fn form_text(
     match form {
         Form::Tables => push_table(&mut text, graph, table)?,
         Form::Summary => push_summary(alloc, &mut text, edges, graph, table)?,
+        Form::Changes => push_table(&mut text, graph, table)?,
     }
     Ok(text)
 }

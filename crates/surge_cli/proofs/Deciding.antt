@@ -14,6 +14,7 @@ agrees answer files words status.Usage old new a b h e k = h.0.only e k
 agrees answer files words (status.Absent role) old new a b h e k = h.0.only e k
 agrees answer files words (status.Data fault) old new a b h e k = h.0.only e k
 agrees answer files words (status.Script fault) old new a b h e k = h.0.only e k
+agrees answer files words (status.Replay fault) old new a b h e k = h.0.only e k
 agrees answer files words status.ReadFault old new a b h e k = tt
 agrees answer files words status.WriteFault old new a b h e k = tt
 agrees answer files words status.NoMemory old new a b h e k = tt

@@ -210,6 +210,7 @@ later P m n f g le h = λ name no. h name (λ r is. no r (wider r is.0, is.1)) w
   wider role.Script up = tt
   wider role.Nodes up = tt
   wider role.Edges up = tt
+  wider role.Changes up = tt
   wider (role.Insert k) up = omega (arith, up, le)
 
 -- all that was asked up to a statement stands in its place

@@ -9,9 +9,9 @@ use Rattle.surge_cli.specs.declared.status.Status.{Status}
 use Rattle.surge_cli.specs.declared.status.Status.TheVariants as status
 use Rattle.surge_cli.specs.FilesState.{FilesState, GoesOn, AsksNoOther}
 use Rattle.surge_cli.specs.Expected.{Held, Grouped, grouped, inserts_of}
-use Rattle.surge_cli.specs.Reaches.{HasScript, GivesGraph, ReachesData, ReachesNamed}
+use Rattle.surge_cli.specs.Reaches.{HasScript, GivesGraph, ReachesData, ReachesNamed, ReachesChanges}
 use Rattle.surge_cli.specs.Causes.{AsksOnly, IsUpTo, UpTo, RisesAt, Counts, Causes}
-use Rattle.surge_cli.specs.Stages.{IsInner, IsFile, IsBehind, RisesBefore, StopsWords}
+use Rattle.surge_cli.specs.Stages.{IsInner, IsReplayInner, IsInnerAt, IsFile, IsBehind, RisesBefore}
 use Rattle.surge_cli.proofs.GoingOn.{risen_since}
 
 -- ---- places
@@ -23,6 +23,7 @@ at_file P role name h r n is = subst (λ (x : FileRole). P x n) (sym is.0) (subs
 -- the data files are reached behind the script
 pub data_named : (held : Option Held) (file : List ℕ) (script : Script) → HasScript held file script → (r : FileRole) (n : List ℕ) → ReachesData held script r n → ReachesNamed held file r n
 data_named held file script has role.Script n h = absurd h
+data_named held file script has role.Changes n h = absurd h
 data_named held file script has role.Nodes n h = (script, has, h)
 data_named held file script has role.Edges n h = (script, has, h)
 data_named held file script has (role.Insert m) n h = (script, has, h)
@@ -47,12 +48,14 @@ pub up_to_itself : (r : FileRole) → IsUpTo r r
 up_to_itself role.Script = tt
 up_to_itself role.Nodes = tt
 up_to_itself role.Edges = tt
+up_to_itself role.Changes = tt
 up_to_itself (role.Insert m) = omega arith
 
 pub script_first : (r : FileRole) → IsUpTo r role.Script
 script_first role.Script = tt
 script_first role.Nodes = tt
 script_first role.Edges = tt
+script_first role.Changes = tt
 script_first (role.Insert m) = tt
 
 -- what was asked before stands before each file of the second stage
@@ -69,12 +72,14 @@ pub behind_data : (held : Option Held) (script : Script) (graph : GraphData) →
 behind_data held script graph gives role.Script n h = absurd h
 behind_data held script graph gives role.Nodes n h = absurd h
 behind_data held script graph gives role.Edges n h = absurd h
+behind_data held script graph gives role.Changes n h = absurd h
 behind_data held script graph gives (role.Insert m) n h = (graph, gives, h)
 
 up_to_edges : (m : ℕ) (r : FileRole) → IsUpTo role.Edges r → IsUpTo (role.Insert m) r
 up_to_edges m role.Script h = tt
 up_to_edges m role.Nodes h = tt
 up_to_edges m role.Edges h = tt
+up_to_edges m role.Changes h = tt
 up_to_edges m (role.Insert k) h = absurd h
 
 -- the data files are asked for before them
@@ -82,6 +87,7 @@ pub data_before : (P : FileRole → List ℕ → Type 0) (held : Option Held) (w
 data_before P held w inserts f g h role.Script n is = absurd is
 data_before P held w inserts f g h role.Nodes n is = absurd is
 data_before P held w inserts f g h role.Edges n is = absurd is
+data_before P held w inserts f g h role.Changes n is = absurd is
 data_before P held w inserts f g h (role.Insert m) n is = λ name no. h name (λ r up. no r (up_to_edges m r up.0, up.1))
 
 -- ---- counts
@@ -104,6 +110,7 @@ rises_so P Q (status.Script fault) a b c to on before h = tt
 rises_so P Q status.ReadFault a b c to on before h = (h.0, mapped P Q h.0 a.faults b.faults c.faults a.asked b.asked c.asked to on.faults before h.1)
 rises_so P Q status.WriteFault a b c to on before h = tt
 rises_so P Q status.NoMemory a b c to on before h = tt
+rises_so P Q (status.Replay fault) a b c to on before h = tt
 
 -- the same of what a stage answers
 pub stage_rises : {A : Type 0} (P Q : FileRole → List ℕ → Type 0) (r : Result A Status) (a b c : FilesState) → ((r : FileRole) (n : List ℕ) → P r n → Q r n) → GoesOn a b → StandsBefore P Q a.asked b.asked → IfErr r (λ s. RisesBefore P s b c) → IfErr r (λ s. RisesBefore Q s a c)
@@ -119,22 +126,44 @@ inner_rises P (status.Script fault) a b h = tt
 inner_rises P status.ReadFault a b h = absurd h
 inner_rises P status.WriteFault a b h = tt
 inner_rises P status.NoMemory a b h = tt
+inner_rises P (status.Replay fault) a b h = absurd h
+
+replay_rises : (P : FileRole → List ℕ → Type 0) (s : Status) (a b : FilesState) → IsReplayInner s → RisesBefore P s a b
+replay_rises P status.Done a b h = tt
+replay_rises P status.Usage a b h = tt
+replay_rises P (status.Absent role) a b h = absurd h
+replay_rises P (status.Data fault) a b h = tt
+replay_rises P (status.Script fault) a b h = tt
+replay_rises P status.ReadFault a b h = absurd h
+replay_rises P status.WriteFault a b h = tt
+replay_rises P status.NoMemory a b h = tt
+replay_rises P (status.Replay fault) a b h = tt
+
+-- the same of the file of a role
+pub rises_at : (P : FileRole → List ℕ → Type 0) (r : FileRole) (s : Status) (a b : FilesState) → IsInnerAt r s → RisesBefore P s a b
+rises_at P role.Script s a b h = inner_rises P s a b h
+rises_at P role.Nodes s a b h = inner_rises P s a b h
+rises_at P role.Edges s a b h = inner_rises P s a b h
+rises_at P (role.Insert n) s a b h = inner_rises P s a b h
+rises_at P role.Changes s a b h = replay_rises P s a b h
 
 -- a stage that asks nothing of the files
 pub inner_counts : {A : Type 0} (P : FileRole → List ℕ → Type 0) (r : Result A Status) (a b : FilesState) → IfErr r IsInner → IfErr r (λ s. RisesBefore P s a b)
 inner_counts P (Ok x) a b h = tt
 inner_counts P (Err s) a b h = inner_rises P s a b h
 
+-- the same on the way to a change text
+pub replay_counts : {A : Type 0} (P : FileRole → List ℕ → Type 0) (r : Result A Status) (a b : FilesState) → IfErr r IsReplayInner → IfErr r (λ s. RisesBefore P s a b)
+replay_counts P (Ok x) a b h = tt
+replay_counts P (Err s) a b h = replay_rises P s a b h
+
 -- nothing of the files is asked by what stops at the words
-pub words_rise : (P : FileRole → List ℕ → Type 0) (words : List (List ℕ)) (s : Status) (a b : FilesState) → StopsWords words s → RisesBefore P s a b
-words_rise P words status.Done a b h = tt
-words_rise P words status.Usage a b h = tt
-words_rise P words (status.Absent role) a b h = absurd h
-words_rise P words (status.Data fault) a b h = tt
-words_rise P words (status.Script fault) a b h = tt
-words_rise P words status.ReadFault a b h = absurd h
-words_rise P words status.WriteFault a b h = tt
-words_rise P words status.NoMemory a b h = tt
+pub words_rise : (P : FileRole → List ℕ → Type 0) (s : Status) (a b : FilesState) → s ≡ status.NoMemory → RisesBefore P s a b
+words_rise P s a b is = subst (λ (x : Status). RisesBefore P x a b) (sym is) tt
+
+-- the change text alone is reached
+pub changes_named : (file : List ℕ) (r : FileRole) (n : List ℕ) → IsFile role.Changes file r n → ReachesChanges file r n
+changes_named file r n is = at_file (ReachesChanges file) role.Changes file refl r n is
 
 -- ---- the counts of all ends
 

@@ -1,5 +1,5 @@
 -- Places of files are asked for once.
-use Rattle.std.proofs.Common.{◌≤◌, ◌+◌, ℕ, List, [], ◌∷◌, Option, arith, refl, inl, inr}
+use Rattle.std.proofs.Common.{◌≡◌, ◌≤◌, ◌+◌, ℕ, List, [], ◌∷◌, Option, arith, refl, sym, subst, inl, inr}
 use Rattle.std.specs.Prelude.{if◌then◌else◌}
 use Rattle.std.specs.Str.{bytes_eq}
 use Rattle.gvdl_tree.specs.declared.script.Script.{Script}
@@ -55,3 +55,8 @@ of_source held (source.Sample number) s = sample_alone held number s
 pub nothing_read : (held : Option Held) (words : CommandLine) (s : FilesState) → AsksOnce (IsReadFor held words) s s
 nothing_read held line.NotOfForm s = ([], refl, none_each [] s)
 nothing_read held (line.Asked asked) s = of_source held asked.source s
+nothing_read held (line.Replay name) s = (name ∷ [], refl, none_each (name ∷ []) s)
+
+-- the change text alone was read
+pub changes_alone : (held : Option Held) (words : CommandLine) (name : List ℕ) (a b : FilesState) → words ≡ line.Replay name → AsksEach (name ∷ []) a b → AsksOnce (IsReadFor held words) a b
+changes_alone held words name a b is h = subst (λ (x : CommandLine). AsksOnce (IsReadFor held x) a b) (sym is) (name ∷ [], refl, h)

@@ -10,7 +10,7 @@ use Rattle.surge_cli.specs.declared.words.Source.{Source}
 use Rattle.surge_cli.specs.declared.words.Source.TheVariants as source
 use Rattle.surge_cli.specs.declared.words.CommandLine.{CommandLine}
 use Rattle.surge_cli.specs.declared.words.CommandLine.TheVariants as line
-use Rattle.surge_cli.specs.declared.job.Job.{Job}
+use Rattle.surge_cli.specs.declared.job.Due.{Due}
 use Rattle.surge_cli.specs.FilesState.{FilesState}
 use Rattle.surge_cli.specs.StatusText.{status_line}
 use Rattle.surge_cli.specs.Expected.{Expectation}
@@ -18,16 +18,25 @@ use Rattle.surge_cli.specs.Headline.{Written}
 
 -- ---- the words
 
--- a status that does not come from the words
-abbrev pub IsLater : Status → Type 0
-IsLater status.Usage = ⊥
-IsLater _ = Unit {0}
+-- a status of a script: neither the words nor a change text are refused
+abbrev pub IsOfScript : Status → Type 0
+IsOfScript status.Usage = ⊥
+IsOfScript (status.Replay fault) = ⊥
+IsOfScript _ = Unit {0}
+
+-- a status of a change text: neither the words nor a script or its data are refused
+abbrev pub IsOfChanges : Status → Type 0
+IsOfChanges status.Usage = ⊥
+IsOfChanges (status.Data fault) = ⊥
+IsOfChanges (status.Script fault) = ⊥
+IsOfChanges _ = Unit {0}
 
 -- a status to these words, whatever the files do: words that are not of the form are answered Usage and no others are, but
 -- for want of memory
 abbrev pub OfWords : CommandLine → Status → Type 0
 OfWords line.NotOfForm s = (s ≡ status.Usage) ⊎ (s ≡ status.NoMemory)
-OfWords (line.Asked asked) s = IsLater s
+OfWords (line.Asked asked) s = IsOfScript s
+OfWords (line.Replay name) s = IsOfChanges s
 
 -- the words name no file
 abbrev pub NamesNoFile : Source → Type 0
@@ -37,6 +46,12 @@ NamesNoFile (source.Sample number) = Unit {0}
 abbrev pub NamesNone : CommandLine → Type 0
 NamesNone line.NotOfForm = Unit {0}
 NamesNone (line.Asked asked) = NamesNoFile asked.source
+NamesNone (line.Replay name) = ⊥
+
+-- the words name a change text
+abbrev pub IsReplay : CommandLine → Type 0
+IsReplay (line.Replay name) = Unit {0}
+IsReplay _ = ⊥
 
 -- ---- what is asked
 
@@ -90,11 +105,12 @@ Causes InPlace _ old new = Unit {0}
 
 -- the status is the one that is expected, or it came from the outside
 abbrev pub AgreesWith : Status → Expectation → Type 0
-AgreesWith status.Done e = (job : Job) × (e ≡ Ok job)
+AgreesWith status.Done e = (job : Due) × (e ≡ Ok job)
 AgreesWith status.Usage e = e ≡ Err status.Usage
 AgreesWith (status.Absent role) e = e ≡ Err (status.Absent role)
 AgreesWith (status.Data fault) e = e ≡ Err (status.Data fault)
 AgreesWith (status.Script fault) e = e ≡ Err (status.Script fault)
+AgreesWith (status.Replay fault) e = e ≡ Err (status.Replay fault)
 AgreesWith _ e = Unit {0}
 
 -- ---- what is reported

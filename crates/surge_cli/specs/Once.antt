@@ -24,6 +24,7 @@ IsReadOf held (source.Sample number) names = names ≡ []
 abbrev pub IsReadFor : Option Held → CommandLine → List (List ℕ) → Type 0
 IsReadFor held line.NotOfForm names = names ≡ []
 IsReadFor held (line.Asked asked) names = IsReadOf held asked.source names
+IsReadFor held (line.Replay name) names = names ≡ name ∷ []
 
 -- of the files of a list of names of this kind, each place was asked for at most as often as the name stands there
 abbrev pub AsksOnce : (List (List ℕ) → Type 0) → (old new : FilesState) → Type 0

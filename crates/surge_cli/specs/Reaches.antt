@@ -9,6 +9,7 @@ use Rattle.surge_cli.specs.declared.status.FileRole.TheVariants as role
 use Rattle.surge_cli.specs.declared.words.Source.{Source}
 use Rattle.surge_cli.specs.declared.words.Source.TheVariants as source
 use Rattle.surge_cli.specs.declared.words.Asked.{Asked}
+use Rattle.surge_cli.specs.declared.words.CommandLine.{CommandLine}
 use Rattle.surge_cli.specs.declared.words.CommandLine.TheVariants as line
 use Rattle.surge_cli.specs.Words.{command_line}
 use Rattle.surge_cli.specs.Expected.{Held, fetched, graph_for, Grouped, grouped, inserts_of, with_files}
@@ -46,6 +47,7 @@ ReachesInsert held w inserts n name = (before : List (ℕ × List ℕ)) × (afte
 -- before it give a graph
 abbrev pub ReachesData : Option Held → Script → FileRole → (name : List ℕ) → Type 0
 ReachesData held script role.Script name = ⊥
+ReachesData held script role.Changes name = ⊥
 ReachesData held script role.Nodes name = name ≡ script.nodes
 ReachesData held script role.Edges name = (nodes : List ℕ) × IsFetched held role.Nodes script.nodes nodes × (name ≡ script.edges)
 ReachesData held script (role.Insert n) name = (graph : GraphData) × GivesGraph held script graph × ReachesInsert held (grouped graph) (inserts_of script) n name
@@ -56,6 +58,7 @@ ReachesNamed held file role.Script name = name ≡ file
 ReachesNamed held file role.Nodes name = (script : Script) × HasScript held file script × ReachesData held script role.Nodes name
 ReachesNamed held file role.Edges name = (script : Script) × HasScript held file script × ReachesData held script role.Edges name
 ReachesNamed held file (role.Insert n) name = (script : Script) × HasScript held file script × ReachesData held script (role.Insert n) name
+ReachesNamed held file role.Changes name = ⊥
 
 -- no file is read for the sample
 abbrev pub ReachesOf : Option Held → Source → FileRole → (name : List ℕ) → Type 0
@@ -65,6 +68,16 @@ ReachesOf held (source.Sample number) role name = ⊥
 abbrev pub ReachesAsked : Option Held → Asked → FileRole → (name : List ℕ) → Type 0
 ReachesAsked held asked role name = ReachesOf held asked.source role name
 
--- the words name a script, and the file of this role and name is read next
+-- of a change text only its own file is
+abbrev pub ReachesChanges : List ℕ → FileRole → (name : List ℕ) → Type 0
+ReachesChanges file role.Changes name = name ≡ file
+ReachesChanges file _ name = ⊥
+
+abbrev pub ReachesFor : Option Held → CommandLine → FileRole → (name : List ℕ) → Type 0
+ReachesFor held line.NotOfForm role name = ⊥
+ReachesFor held (line.Asked asked) role name = ReachesAsked held asked role name
+ReachesFor held (line.Replay file) role name = ReachesChanges file role name
+
+-- to these words the file of this role and name is read next
 abbrev pub Reaches : Option Held → List (List ℕ) → FileRole → (name : List ℕ) → Type 0
-Reaches held words role name = (asked : Asked) × (command_line words ≡ line.Asked asked) × ReachesAsked held asked role name
+Reaches held words role name = ReachesFor held (command_line words) role name

@@ -1,20 +1,22 @@
 -- Internal: what each stage before the execution answers. No contract of a public function cites it.
 use Rattle.std.specs.Prelude.{◌≡◌, ◌⊎◌, ℕ, List, [], ◌∷◌, length, map, sum, Option, IfSome, Result, Ok, Err}
+use Rattle.change_text.specs.Blocks.{Block}
+use Rattle.change_text.specs.Reading.{IsFault}
 use Rattle.gvdl_tree.specs.declared.script.Script.{Script}
 use Rattle.gvdl_tree.specs.declared.script.Statement.{Statement}
 use Rattle.gvdl_parser.specs.declared.fault.ScriptFault.{ScriptFault}
 use Rattle.gvdl_parser.specs.Script.{IsScript, IsFirstFault}
+use Rattle.gvdl_check.specs.Fits.{PlanFits}
 use Rattle.surge_cli.specs.declared.script_line.ScriptRefusal.TheVariants as refused
 use Rattle.surge_cli.specs.declared.status.FileRole.{FileRole}
 use Rattle.surge_cli.specs.declared.status.FileRole.TheVariants as role
 use Rattle.surge_cli.specs.declared.status.Status.{Status}
 use Rattle.surge_cli.specs.declared.status.Status.TheVariants as status
-use Rattle.surge_cli.specs.declared.words.CommandLine.TheVariants as line
-use Rattle.surge_cli.specs.declared.job.Job.{Job}
+use Rattle.surge_cli.specs.declared.job.Due.{Due}
+use Rattle.surge_cli.specs.declared.job.Due.TheVariants as dues
 use Rattle.surge_cli.specs.FilesState.{FilesState}
-use Rattle.surge_cli.specs.Words.{command_line}
 use Rattle.surge_cli.specs.declared.stages.Loaded.{Loaded}
-use Rattle.surge_cli.specs.Expected.{Held, Expectation, Grouped, fetched, insert_at, IsOnly}
+use Rattle.surge_cli.specs.Expected.{Held, Grouped, fetched, insert_at, ExpectsOfChanges, IsOnly}
 use Rattle.surge_cli.specs.Reaches.{IsFetched, ReachesInsert}
 use Rattle.surge_cli.specs.Causes.{RisesAt}
 
@@ -32,19 +34,49 @@ IsStop status.Done = ⊥
 IsStop status.WriteFault = ⊥
 IsStop _ = Unit {0}
 
--- a status of a stage behind the words
+-- a status of a stage behind the words, on the way to a script's job
 abbrev pub IsStage : Status → Type 0
 IsStage status.Done = ⊥
 IsStage status.Usage = ⊥
 IsStage status.WriteFault = ⊥
+IsStage (status.Replay fault) = ⊥
 IsStage _ = Unit {0}
 
--- a status of a stage that asks nothing of the files
+-- the same of a stage that asks nothing of the files
 abbrev pub IsInner : Status → Type 0
 IsInner (status.Data fault) = Unit {0}
 IsInner (status.Script fault) = Unit {0}
 IsInner status.NoMemory = Unit {0}
 IsInner _ = ⊥
+
+-- a status of a stage on the way to a change text
+abbrev pub IsReplayStage : Status → Type 0
+IsReplayStage (status.Absent role) = Unit {0}
+IsReplayStage (status.Replay fault) = Unit {0}
+IsReplayStage status.ReadFault = Unit {0}
+IsReplayStage status.NoMemory = Unit {0}
+IsReplayStage _ = ⊥
+
+-- and of one that asks nothing of the files
+abbrev pub IsReplayInner : Status → Type 0
+IsReplayInner (status.Replay fault) = Unit {0}
+IsReplayInner status.NoMemory = Unit {0}
+IsReplayInner _ = ⊥
+
+-- of the file of this role
+abbrev pub IsStageAt : FileRole → Status → Type 0
+IsStageAt role.Script s = IsStage s
+IsStageAt role.Nodes s = IsStage s
+IsStageAt role.Edges s = IsStage s
+IsStageAt (role.Insert n) s = IsStage s
+IsStageAt role.Changes s = IsReplayStage s
+
+abbrev pub IsInnerAt : FileRole → Status → Type 0
+IsInnerAt role.Script s = IsInner s
+IsInnerAt role.Nodes s = IsInner s
+IsInnerAt role.Edges s = IsInner s
+IsInnerAt (role.Insert n) s = IsInner s
+IsInnerAt role.Changes s = IsReplayInner s
 
 -- the file of one fetch
 abbrev pub IsFile : FileRole → List ℕ → FileRole → List ℕ → Type 0
@@ -68,21 +100,13 @@ abbrev pub IsSaidOf : {A : Type 0} → Option Held → (Held → Result A Status
 IsSaidOf held said result = IfSome held (λ files. IsSaid (said files) result)
 
 -- it is what alone is expected, or what the outside decides
-abbrev pub IsExpected : (Expectation → Type 0) → Result Job Status → Type 0
-IsExpected expects (Ok job) = IsOnly expects (Ok job)
+abbrev pub IsExpected : {A : Type 0} → (Result A Status → Type 0) → Result A Status → Type 0
+IsExpected expects (Ok a) = IsOnly expects (Ok a)
 IsExpected expects (Err s) = IsOutside s ⊎ IsOnly expects (Err s)
 
 -- the same where the files are told
-abbrev pub IsExpectedOf : Option Held → (Held → Expectation → Type 0) → Result Job Status → Type 0
+abbrev pub IsExpectedOf : {A : Type 0} → Option Held → (Held → Result A Status → Type 0) → Result A Status → Type 0
 IsExpectedOf held expects result = IfSome held (λ files. IsExpected (expects files) result)
-
--- ---- the words
-
--- why the reading of the words stopped
-abbrev pub StopsWords : List (List ℕ) → Status → Type 0
-StopsWords words status.Usage = command_line words ≡ line.NotOfForm
-StopsWords words status.NoMemory = Unit {0}
-StopsWords words _ = ⊥
 
 -- ---- the script
 
@@ -101,6 +125,35 @@ StopsParse text _ = ⊥
 -- why the reading of the script in the file of this name stopped: no text was fetched, or its reading stopped
 abbrev pub StopsScript : Option Held → List ℕ → Status → Type 0
 StopsScript held name s = IsSaidOf {A = List ℕ} held (λ files. fetched files role.Script name) (Err s) ⊎ ((text : List ℕ) × IsFetched held role.Script name text × StopsParse text s)
+
+-- ---- the change text
+
+-- why the reading of a change text stopped
+abbrev pub StopsChanges : List ℕ → Status → Type 0
+StopsChanges text status.NoMemory = Unit {0}
+StopsChanges text (status.Replay fault) = IsFault text fault
+StopsChanges text _ = ⊥
+
+-- the tables of the blocks are to be written
+abbrev pub as_replay : Result (List Block) Status → Result Due Status
+as_replay (Ok blocks) = Ok (dues.Replay blocks)
+as_replay (Err s) = Err s
+
+-- the blocks of the change text in the file of this name, or the refusal
+abbrev pub IsReadOfChanges : Option Held → List ℕ → Result (List Block) Status → Type 0
+IsReadOfChanges held name result = IsExpectedOf held (λ files. ExpectsOfChanges (fetched files role.Changes name)) (as_replay result)
+
+-- ---- what is due
+
+-- tables of a change text are to be written
+abbrev pub IsReplayed : Due → Type 0
+IsReplayed (dues.Run job) = ⊥
+IsReplayed (dues.Replay blocks) = Unit {0}
+
+-- what is due can be done
+abbrev pub DueFits : Due → Type 0
+DueFits (dues.Run job) = PlanFits job.graph job.plan
+DueFits (dues.Replay blocks) = Unit {0}
 
 -- ---- graphs with their files
 

@@ -10,6 +10,8 @@ use Rattle.gvdl_parser.specs.declared.fault.ScriptFault.{ScriptFault}
 use Rattle.gvdl_parser.specs.declared.fault.ScriptFault.TheVariants as faulty
 use Rattle.gvdl_programs.specs.declared.refusal.Refusal.{Refusal}
 use Rattle.gvdl_programs.specs.declared.refusal.Refusal.TheVariants as refusal
+use Rattle.change_text.specs.declared.fault.ReplayFault.{ReplayFault}
+use Rattle.change_text.specs.declared.fault.ReplayFault.TheVariants as replayed
 use Rattle.surge_cli.specs.declared.script_line.ScriptRefusal.{ScriptRefusal}
 use Rattle.surge_cli.specs.declared.script_line.ScriptRefusal.TheVariants as refused
 use Rattle.surge_cli.specs.declared.status.FileRole.{FileRole}
@@ -26,12 +28,14 @@ status_number (status.Script fault) = 5
 status_number status.ReadFault = 6
 status_number status.WriteFault = 7
 status_number status.NoMemory = 8
+status_number (status.Replay fault) = 10
 
 abbrev pub role_text : FileRole → List ℕ
 role_text role.Script = codes "script"
 role_text role.Nodes = codes "nodes"
 role_text role.Edges = codes "edges"
 role_text (role.Insert n) = codes "insert " ++ decimal n
+role_text role.Changes = codes "changes"
 
 abbrev pub file_text : DataFile → List ℕ
 file_text file.Nodes = codes "nodes"
@@ -57,7 +61,7 @@ abbrev pub line_of : List ℕ → List ℕ
 line_of text = codes "surge: " ++ (text ++ 10 ∷ [])
 
 abbrev pub usage_line : List ℕ
-usage_line = line_of (codes "usage: surge (--script FILE | --sample N) [--mode run|check|summary] [--turns N]")
+usage_line = line_of (codes "usage: surge (--script FILE | --sample N | --replay FILE) [--mode run|check|summary|changes] [--turns N]")
 
 -- the file, the record, the column and the kind of a fault
 abbrev pub fault_line : DataFault → List ℕ
@@ -115,6 +119,14 @@ where_text (refused.Statement fault) = statement_text fault.statement
 abbrev pub script_line : ScriptRefusal → List ℕ
 script_line why = codes "surge: script: " ++ (where_text why ++ (script_refusal_name why ++ 10 ∷ []))
 
+-- the first bad line of a change text, or that it is too large
+abbrev pub replay_text : ReplayFault → List ℕ
+replay_text (replayed.Line n) = codes "line " ++ decimal n
+replay_text replayed.TooLarge = codes "TooLarge"
+
+abbrev pub replay_line : ReplayFault → List ℕ
+replay_line fault = line_of (codes "replay: " ++ replay_text fault)
+
 -- one line, or nothing where the run is done
 abbrev pub status_line : Status → List ℕ
 status_line status.Done = []
@@ -125,3 +137,4 @@ status_line (status.Script why) = script_line why
 status_line status.ReadFault = line_of (codes "read fault")
 status_line status.WriteFault = line_of (codes "write fault")
 status_line status.NoMemory = line_of (codes "out of memory")
+status_line (status.Replay fault) = replay_line fault

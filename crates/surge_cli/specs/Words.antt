@@ -1,5 +1,5 @@
 -- What the words of the command line ask for.
-use Rattle.std.specs.Prelude.{ℕ, ◌^◌, Bool, true, ◌&&◌, nat_le, nat_lt, if◌then◌else◌, List, [], ◌∷◌, length, codes, Option, Some, None, option_map, option_and_then}
+use Rattle.std.specs.Prelude.{ℕ, ◌^◌, Bool, true, not, ◌&&◌, ◌||◌, nat_le, nat_lt, if◌then◌else◌, List, [], ◌∷◌, length, codes, Option, Some, None, is_some, option_map}
 use Rattle.std.specs.Char.{is_ascii_digit}
 use Rattle.std.specs.List.{list_all}
 use Rattle.std.specs.Str.{bytes_eq}
@@ -30,7 +30,7 @@ abbrev pub bare : App
 bare = let plain = new_app (codes "surge") in record plain { top = record plain.top { disable_help_flag = true; disable_version_flag = true } }
 
 abbrev pub command : App
-command = with_rule (with_rule (with_rule (with_rule bare (option_named (codes "script"))) (option_named (codes "sample"))) (option_named (codes "mode"))) (option_named (codes "turns"))
+command = with_rule (with_rule (with_rule (with_rule (with_rule bare (option_named (codes "script"))) (option_named (codes "sample"))) (option_named (codes "replay"))) (option_named (codes "mode"))) (option_named (codes "turns"))
 
 abbrev pub where_none : Kinds → List Row → Option (List Row)
 where_none [] rows = Some rows
@@ -65,7 +65,8 @@ abbrev pub mode_named : List ℕ → Option Mode
 mode_named text =
     if bytes_eq text (codes "run") then Some mode.Run
     else (if bytes_eq text (codes "check") then Some mode.Check
-    else (if bytes_eq text (codes "summary") then Some mode.Summary else None))
+    else (if bytes_eq text (codes "summary") then Some mode.Summary
+    else (if bytes_eq text (codes "changes") then Some mode.Changes else None)))
 
 -- without `--mode` the mode is `run`
 abbrev pub mode_of : Option (List ℕ) → Option Mode
@@ -86,14 +87,11 @@ abbrev pub request_from : List Row → Option Request
 request_from rows =
     joined (source_of (first_of (codes "script") rows) (first_of (codes "sample") rows)) (mode_of (first_of (codes "mode") rows)) (turns_of (first_of (codes "turns") rows))
 
--- what the words ask for, where they are of the form
-abbrev pub request_of : List (List ℕ) → Option Request
-request_of words = option_and_then request_from (matched words)
-
 -- what is done in a mode; in the mode `check` nothing is turned
 abbrev pub task_of : Mode → Option ℕ → Task
 task_of mode.Run turns = task.Run form.Tables turns
 task_of mode.Summary turns = task.Run form.Summary turns
+task_of mode.Changes turns = task.Run form.Changes turns
 task_of mode.Check turns = task.Check
 
 -- a script and what is done of it
@@ -104,6 +102,30 @@ abbrev pub line_of : Option Request → CommandLine
 line_of None = line.NotOfForm
 line_of (Some request) = line.Asked (asked_of request)
 
+-- ---- a change text
+
+-- an option other than `--replay` was given
+abbrev pub is_accompanied : List Row → Bool
+is_accompanied rows =
+    is_some (first_of (codes "script") rows) || is_some (first_of (codes "sample") rows) || is_some (first_of (codes "mode") rows) || is_some (first_of (codes "turns") rows)
+
+-- `--replay` stands alone, and the name of its file isn't empty
+abbrev pub replay_of : List ℕ → (accompanied : Bool) → CommandLine
+replay_of name accompanied = if nat_le 1 (length name) && not accompanied then line.Replay name else line.NotOfForm
+
+-- ---- the command line
+
+abbrev pub line_with : Option (List ℕ) → List Row → CommandLine
+line_with (Some name) rows = replay_of name (is_accompanied rows)
+line_with None rows = line_of (request_from rows)
+
+abbrev pub line_from : List Row → CommandLine
+line_from rows = line_with (first_of (codes "replay") rows) rows
+
+abbrev pub line_matched : Option (List Row) → CommandLine
+line_matched None = line.NotOfForm
+line_matched (Some rows) = line_from rows
+
 -- what the words of the command line come to
 unfoldable pub command_line : List (List ℕ) → CommandLine
-command_line words = line_of (request_of words)
+command_line words = line_matched (matched words)

@@ -9,11 +9,11 @@ ghost use Rattle.surge_cli.specs.Expected.{Expectation, Expects, told};
 ghost use Rattle.surge_cli.specs.Headline.{Means};
 ghost use Rattle.surge_cli.specs.Reaches.{Reaches};
 ghost use Rattle.surge_cli.specs.Once.{ReadsOnce};
-ghost use Rattle.surge_cli.specs.Causes.{OfWords, NamesNone, counts, AsksOnly, Causes, AgreesWith, Reports};
+ghost use Rattle.surge_cli.specs.Causes.{OfWords, NamesNone, IsReplay, counts, AsksOnly, Causes, AgreesWith, Reports};
 ghost use Rattle.surge_cli.specs.Completing.{NothingFailed, Completes};
 
 use crate::named_files::NamedFiles;
-use crate::session::do_job;
+use crate::session::do_due;
 use crate::stages::prepare;
 use crate::status::Status;
 use std::alloc::Global;
@@ -32,12 +32,13 @@ fn run<F: NamedFiles, O: Sink, U: Updater>(
     ensures headline { Means U.answer (told (F.state files.old).held (map string_bytes words.now)) (map string_bytes words.now) result (O.written out.old) (O.written out.new) (U.calls updater.old) (U.calls updater.new) }
     ensures words { OfWords (command_line (map string_bytes words.now)) result }
     ensures unread { NamesNone (command_line (map string_bytes words.now)) → files.new ≡ files.old }
+    ensures uncalled { IsReplay (command_line (map string_bytes words.now)) → updater.new ≡ updater.old }
     ensures causes { Causes (Reaches (F.state files.old).held (map string_bytes words.now)) result (counts (F.state files.old) (O.faults out.old)) (counts (F.state files.new) (O.faults out.new)) }
     ensures asked { AsksOnly (Reaches (F.state files.old).held (map string_bytes words.now)) (F.state files.old).asked (F.state files.new).asked }
     ensures once { ReadsOnce (F.state files.old).held (map string_bytes words.now) (F.state files.old) (F.state files.new) }
 {
     match prepare(alloc, files, words) {
-        Ok(job) => match do_job(alloc, &job, out, updater) {
+        Ok(due) => match do_due(alloc, &due, out, updater) {
             Ok(()) => Status::Done,
             Err(Trouble::Failed) => Status::WriteFault,
             Err(Trouble::NoMemory) => Status::NoMemory,
@@ -86,12 +87,14 @@ fn report<E: Sink>(alloc: Global, status: Status, err: &mut E) -> Status
 /// Runs the program: reads the script that the words name and the two data files that it names, checks the script, executes
 /// its statements one after the other and writes to `out` what they print: the tables of each run alone on each view of its
 /// collection, those of each kept run on the views that an append adds, and the order of a collection's views where it is
-/// shown; or, in the mode `check`, writes the script's canonical text. A status other than [`Status::Done`] is reported to
-/// `err` as one line.
+/// shown; or, in the mode `check`, writes the script's canonical text. Where the words name a change text, that text is read and
+/// its tables are written. A status other than [`Status::Done`] is reported to `err` as one line.
 ///
-/// The words are the program's name and `(--script FILE | --sample N) [--mode run|check|summary] [--turns N]`, as `clap`
-/// reads four options that each take one text. A sample takes the place of the three files: of them nothing is asked then.
-/// With `summary` one line is written for each table. Turns draw the order in which the segments of a run are stepped, and
+/// The words are the program's name and `(--script FILE | --sample N | --replay FILE) [--mode run|check|summary|changes]
+/// [--turns N]`, as `clap` reads five options that each take one text; `--replay` stands without `--mode` and `--turns`. A
+/// sample takes the place of the three files: of them nothing is asked then. With `summary` one line is written for each table,
+/// and with `changes` the tables are written as a change text, without what is shown. A change text is judged whole before
+/// anything is written. Turns draw the order in which the segments of a run are stepped, and
 /// change nothing that is written. What is told of the files decides the status, unless the outside fails or memory is
 /// wanting: the first refusal in the order of reading, or the output. Views and collections of views are those of
 /// Graphsurge (Sahu and Salihoglu 2021).
@@ -113,11 +116,15 @@ pub fn surge<F: NamedFiles, O: Sink, E: Sink, U: Updater>(
     // was wanting.
     ensures complete { NothingFailed (counts (F.state files.old) (O.faults out.old)) (counts (F.state files.new) (O.faults out.new)) → Completes U.answer (F.state files.old).held (map string_bytes words.now) result (O.written out.old) (O.written out.new) }
 
-    // Words that are not of the form are answered Usage and no others are, whatever the files do, but for want of memory.
+    // Words that are not of the form are answered Usage and no others are, whatever the files do, but for want of memory. A
+    // fault of data or of a script comes to no words that name a change text, and that of a change text to no others.
     ensures words { OfWords (command_line (map string_bytes words.now)) result }
 
     // Where the words name no file, nothing is asked of the files.
     ensures unread { NamesNone (command_line (map string_bytes words.now)) → files.new ≡ files.old }
+
+    // Where the words name a change text, the updater is not called.
+    ensures uncalled { IsReplay (command_line (map string_bytes words.now)) → updater.new ≡ updater.old }
 
     // An absence, a read fault or a write fault comes only where its count rose, and one of a file only where that file was
     // reached. Behind that file no other was asked for.

@@ -1,16 +1,20 @@
-//! Does a job: executes a plan and writes what its statements print, or writes a script's canonical text.
+//! Does what is to be done: executes a plan and writes what its statements print, writes a script's canonical text, or
+//! writes the tables of a change text.
 
 ghost use Rattle.std.specs.Prelude.{◌≡◌, ◌≤◌, ◌+◌, OnOk, OnErr};
 ghost use Rattle.surge_outside.specs.Counts.{HasRisen};
 ghost use Rattle.surge_outside.specs.Written.{GrewByFront, appended};
 ghost use Rattle.gvdl_check.specs.Fits.{PlanFits};
+ghost use Rattle.change_text.specs.Spelling.{tables_text};
 ghost use Rattle.gvdl_printer.specs.Canonical.{canonical};
 ghost use Rattle.surge_session.specs.Output.{plan_text};
 ghost use Rattle.surge_session.specs.Works.{plan_work};
-ghost use Rattle.surge_cli.specs.Output.{output, job_work};
+ghost use Rattle.surge_cli.specs.Output.{job_output, output, job_work, due_work};
+ghost use Rattle.surge_cli.specs.Stages.{DueFits, IsReplayed};
 
-use crate::job::Job;
+use crate::job::{Due, Job};
 use crate::words::Task;
+use change_text::{ChangeText, ReplayStop, replay};
 use graph_model::Graph;
 use gvdl_check::Plan;
 use gvdl_printer::print;
@@ -58,16 +62,16 @@ fn write_script<O: Sink>(alloc: Global, script: &Script, out: &mut O) -> Result<
     }
 }
 
-/// Does a job, and writes what it prints.
-pub(crate) fn do_job<O: Sink, U: Updater>(
+// Does what is asked of a script, and writes what it prints.
+fn do_job<O: Sink, U: Updater>(
     alloc: Global,
     job: &Job,
     out: &mut O,
     updater: &mut U,
 ) -> Result<(), Trouble>
     requires { PlanFits job.now.graph job.now.plan }
-    ensures ok { OnOk result (O.written out.new ≡ appended (O.written out.old) (output U.answer job.now)) }
-    ensures err { OnErr result (GrewByFront (O.written out.old) (O.written out.new) (output U.answer job.now)) }
+    ensures ok { OnOk result (O.written out.new ≡ appended (O.written out.old) (job_output U.answer job.now)) }
+    ensures err { OnErr result (GrewByFront (O.written out.old) (O.written out.new) (job_output U.answer job.now)) }
     ensures calls { OnOk result (U.calls updater.new ≤ U.calls updater.old + job_work U.answer job.now) }
     ensures faults { O.faults out.old ≤ O.faults out.new }
     ensures failed { result ≡ Err Trouble.Failed → HasRisen (O.faults out.old) (O.faults out.new) }
@@ -77,5 +81,41 @@ pub(crate) fn do_job<O: Sink, U: Updater>(
             run_plan(alloc, &job.graph, &job.plan, form, turns, out, updater)
         }
         Task::Check => write_script(alloc, &job.script, out),
+    }
+}
+
+// Writes the tables of a change text.
+fn write_replay<O: Sink>(alloc: Global, changes: &ChangeText, out: &mut O) -> Result<(), Trouble>
+    ensures ok { OnOk result (O.written out.new ≡ appended (O.written out.old) (tables_text changes.now)) }
+    ensures err { OnErr result (GrewByFront (O.written out.old) (O.written out.new) (tables_text changes.now)) }
+    ensures faults { O.faults out.old ≤ O.faults out.new }
+    ensures failed { result ≡ Err Trouble.Failed → HasRisen (O.faults out.old) (O.faults out.new) }
+{
+    match replay(alloc, changes, out) {
+        Ok(()) => Ok(()),
+        Err(ReplayStop::Failed) => Err(Trouble::Failed),
+        Err(ReplayStop::NoMemory) => Err(Trouble::NoMemory),
+    }
+}
+
+/// Does what is to be done, and writes what it prints. Where the tables of a change text are written, the updater is not
+/// called.
+pub(crate) fn do_due<O: Sink, U: Updater>(
+    alloc: Global,
+    due: &Due,
+    out: &mut O,
+    updater: &mut U,
+) -> Result<(), Trouble>
+    requires { DueFits due.now }
+    ensures ok { OnOk result (O.written out.new ≡ appended (O.written out.old) (output U.answer due.now)) }
+    ensures err { OnErr result (GrewByFront (O.written out.old) (O.written out.new) (output U.answer due.now)) }
+    ensures calls { OnOk result (U.calls updater.new ≤ U.calls updater.old + due_work U.answer due.now) }
+    ensures uncalled { IsReplayed due.now → updater.new ≡ updater.old }
+    ensures faults { O.faults out.old ≤ O.faults out.new }
+    ensures failed { result ≡ Err Trouble.Failed → HasRisen (O.faults out.old) (O.faults out.new) }
+{
+    match due {
+        Due::Run(job) => do_job(alloc, job, out, updater),
+        Due::Replay(changes) => write_replay(alloc, changes, out),
     }
 }

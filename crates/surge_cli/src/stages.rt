@@ -1,6 +1,6 @@
 //! From the words to a job, stage by stage.
 
-ghost use Rattle.std.specs.Prelude.{◌≡◌, ◌<◌, ◌≤◌, ◌+◌, ◌^◌, [], ◌∷◌, map, string_bytes, length, sum, IfOk, IfErr, OnOk};
+ghost use Rattle.std.specs.Prelude.{◌≡◌, ◌<◌, ◌≤◌, ◌+◌, ◌^◌, ℕ, List, [], ◌∷◌, map, string_bytes, length, sum, IfOk, IfErr, OnOk};
 ghost use Rattle.graph_loader.specs.DataFiles.{extended, graph_of};
 ghost use Rattle.gvdl_check.specs.Fits.{PlanFits};
 ghost use Rattle.gvdl_check.specs.Plans.{plan};
@@ -8,19 +8,21 @@ ghost use Rattle.gvdl_check.specs.Written.{IsWritten};
 ghost use Rattle.sample_data.specs.Sample.{script_text};
 ghost use Rattle.surge_cli.specs.FilesState.{GoesOn, AsksNoOther, AsksEach};
 ghost use Rattle.surge_cli.specs.Words.{command_line};
-ghost use Rattle.surge_cli.specs.Expected.{limit_of, too_large, large_of, fetched, loaded, planned, graph_with, graph_for, insert_at, inserts_of, grouped, with_bytes, with_file, with_files, grouped_for, job_over, job_for, sample_graph, job_sampled, ExpectsOfText, ExpectsOfFile, ExpectsAsked, Expects, told_of, told};
+ghost use Rattle.surge_cli.specs.Expected.{limit_of, too_large, large_of, fetched, loaded, planned, graph_with, graph_for, insert_at, inserts_of, grouped, with_bytes, with_file, with_files, grouped_for, job_over, job_for, sample_graph, job_sampled, ExpectsOfText, ExpectsOfFile, ExpectsOfChanges, ExpectsOfSource, ExpectsAsked, Expects, told_of, told};
 ghost use Rattle.surge_cli.specs.Headline.{AsksFor};
-ghost use Rattle.surge_cli.specs.Reaches.{IsTheScript, HasScript, ReachesData, ReachesNamed, ReachesAsked, Reaches};
+ghost use Rattle.surge_cli.specs.Reaches.{IsTheScript, HasScript, ReachesData, ReachesNamed, ReachesAsked, ReachesChanges, Reaches};
 ghost use Rattle.surge_cli.specs.Causes.{OfWords, NamesNoFile, NamesNone, AsksOnly, UpTo};
 ghost use Rattle.surge_cli.specs.Once.{IsRead, IsReadOf, AsksOnce, ReadsOnce};
-ghost use Rattle.surge_cli.specs.Stages.{IsStop, IsStage, IsInner, IsFile, RisesBefore, IsSaid, IsSaidOf, IsExpected, IsExpectedOf, StopsWords, StopsParse, StopsScript, seen, as_seen, result_of, AreGrouped, names_of, IsInsert, IsBehind};
+ghost use Rattle.surge_cli.specs.Stages.{IsStop, IsStage, IsStageAt, IsReplayStage, IsInner, IsInnerAt, IsFile, RisesBefore, IsSaid, IsSaidOf, IsExpected, IsExpectedOf, StopsParse, StopsScript, DueFits, seen, as_seen, result_of, AreGrouped, names_of, IsInsert, IsBehind};
 
-use crate::job::Job;
+use crate::job::{Due, Job};
 use crate::named_files::NamedFiles;
 use crate::reading::{Reading, read_file};
+use crate::replaying::changes_named;
 use crate::script_line::ScriptRefusal;
 use crate::status::{FileRole, Status};
 use crate::words::{Asked, CommandLine, Source, Task, command_line};
+use change_text::ReplayFault;
 use graph_loader::{DataFault, DataFile, DataKind, LoadFault, extend, load};
 use graph_model::Graph;
 use gvdl_check::{CheckFault, Plan, check};
@@ -39,6 +41,7 @@ fn limit_of(role: FileRole) -> usize
         FileRole::Nodes => 268_435_456,
         FileRole::Edges => 268_435_456,
         FileRole::Insert(_) => 268_435_456,
+        FileRole::Changes => 268_435_456,
     }
 }
 
@@ -56,18 +59,19 @@ fn too_large(file: DataFile) -> Status
 // The answer to a file of more bytes than its limit.
 fn large_of(role: FileRole) -> Status
     ensures value { result ≡ large_of role }
-    ensures inner { IsInner result }
+    ensures inner { IsInnerAt role result }
 {
     match role {
         FileRole::Script => Status::Script(ScriptRefusal::TooLarge),
         FileRole::Nodes => too_large(DataFile::Nodes),
         FileRole::Edges => too_large(DataFile::Edges),
         FileRole::Insert(statement) => too_large(DataFile::Insert(statement)),
+        FileRole::Changes => Status::Replay(ReplayFault::TooLarge),
     }
 }
 
-// Fetches a whole file within its limit.
-fn fetch<F: NamedFiles>(
+/// Fetches a whole file within its limit.
+pub(crate) fn fetch<F: NamedFiles>(
     alloc: Global,
     files: &mut F,
     role: FileRole,
@@ -75,7 +79,8 @@ fn fetch<F: NamedFiles>(
 ) -> Result<List<u8>, Status>
     ensures said { IsSaidOf (F.state files.old).held (λ held. fetched held role name.now) result }
     ensures small { IfOk result (λ bytes. length bytes < 2 ^ 31) }
-    ensures stage { IfErr result IsStage }
+    ensures within { IfOk result (λ bytes. length bytes ≤ limit_of role) }
+    ensures stage { IfErr result (IsStageAt role) }
     ensures files { GoesOn (F.state files.old) (F.state files.new) }
     ensures causes { IfErr result (λ s. RisesBefore (IsFile role name.now) s (F.state files.old) (F.state files.new)) }
     ensures asked { AsksNoOther name.now (F.state files.old) (F.state files.new) }
@@ -499,7 +504,7 @@ fn job_sampled(alloc: Global, number: u64, task: Task) -> Result<Job, Status>
 
 // The job that is asked for.
 fn job_asked<F: NamedFiles>(alloc: Global, files: &mut F, asked: &Asked) -> Result<Job, Status>
-    ensures said { IsExpectedOf (told_of asked.now.source (F.state files.old).held) (λ held. ExpectsAsked held (CommandLine.Asked asked.now)) result }
+    ensures said { IsExpectedOf (told_of asked.now.source (F.state files.old).held) (λ held. ExpectsOfSource held asked.now.source asked.now.task) result }
     ensures fits { IfOk result (λ job. PlanFits job.graph job.plan) }
     ensures task { IfOk result (λ job. asked.now.task ≡ job.task) }
     ensures stage { IfErr result IsStage }
@@ -514,27 +519,59 @@ fn job_asked<F: NamedFiles>(alloc: Global, files: &mut F, asked: &Asked) -> Resu
     }
 }
 
-// What the words ask for.
-fn read_asked(alloc: Global, words: &[String]) -> Result<Asked, Status>
-    ensures ok { IfOk result (λ asked. command_line (map string_bytes words.now) ≡ CommandLine.Asked asked) }
-    ensures err { IfErr result (StopsWords (map string_bytes words.now)) }
+// What is to be done of the script that is asked for.
+fn script_asked<F: NamedFiles>(alloc: Global, files: &mut F, asked: &Asked) -> Result<Due, Status>
+    ensures said { IsExpectedOf (told_of asked.now.source (F.state files.old).held) (λ held. ExpectsAsked held (CommandLine.Asked asked.now)) result }
+    ensures fits { IfOk result DueFits }
+    ensures asks { IfOk result (AsksFor (CommandLine.Asked asked.now)) }
+    ensures stage { IfErr result IsStage }
+    ensures unread { NamesNoFile asked.now.source → files.new ≡ files.old }
+    ensures causes { IfErr result (λ s. RisesBefore (ReachesAsked (F.state files.old).held asked.now) s (F.state files.old) (F.state files.new)) }
+    ensures asked { AsksOnly (ReachesAsked (F.state files.old).held asked.now) (F.state files.old).asked (F.state files.new).asked }
+    ensures once { AsksOnce (IsReadOf (F.state files.old).held asked.now.source) (F.state files.old) (F.state files.new) }
+{
+    match job_asked(alloc, files, asked) {
+        Ok(job) => Ok(Due::Run(job)),
+        Err(status) => Err(status),
+    }
+}
+
+// What is to be done of the change text in the file of this name.
+fn changes_asked<F: NamedFiles>(alloc: Global, files: &mut F, name: &str) -> Result<Due, Status>
+    ensures said { IsExpectedOf (F.state files.old).held (λ held. ExpectsOfChanges (fetched held FileRole.Changes name.now)) result }
+    ensures fits { IfOk result DueFits }
+    ensures asks { IfOk result (λ job. (file : List ℕ) → AsksFor (CommandLine.Replay file) job) }
+    ensures stage { IfErr result IsReplayStage }
+    ensures causes { IfErr result (λ s. RisesBefore (ReachesChanges name.now) s (F.state files.old) (F.state files.new)) }
+    ensures asked { AsksOnly (ReachesChanges name.now) (F.state files.old).asked (F.state files.new).asked }
+    ensures once { AsksEach (name.now ∷ []) (F.state files.old) (F.state files.new) }
+{
+    match changes_named(alloc, files, name) {
+        Ok(changes) => Ok(Due::Replay(changes)),
+        Err(status) => Err(status),
+    }
+}
+
+// What the words come to.
+fn read_line(alloc: Global, words: &[String]) -> Result<CommandLine, Status>
+    ensures ok { IfOk result (λ line. line ≡ command_line (map string_bytes words.now)) }
+    ensures err { IfErr result (λ s. s ≡ Status.NoMemory) }
 {
     match command_line(alloc, words) {
-        Ok(CommandLine::Asked(asked)) => Ok(asked),
-        Ok(CommandLine::NotOfForm) => Err(Status::Usage),
+        Ok(line) => Ok(line),
         Err(NoMemory) => Err(Status::NoMemory),
     }
 }
 
-/// The job that the words ask for, or the first refusal.
+/// What is to be done to the words, or the first refusal.
 pub(crate) fn prepare<F: NamedFiles>(
     alloc: Global,
     files: &mut F,
     words: &[String],
-) -> Result<Job, Status>
+) -> Result<Due, Status>
     ensures said { IsExpectedOf (told (F.state files.old).held (map string_bytes words.now)) (λ held. Expects held (map string_bytes words.now)) result }
-    ensures fits { IfOk result (λ job. PlanFits job.graph job.plan) }
-    ensures task { IfOk result (λ job. AsksFor (command_line (map string_bytes words.now)) job.task) }
+    ensures fits { IfOk result DueFits }
+    ensures asks { IfOk result (AsksFor (command_line (map string_bytes words.now))) }
     ensures stop { IfErr result IsStop }
     ensures words { IfErr result (OfWords (command_line (map string_bytes words.now))) }
     ensures unread { NamesNone (command_line (map string_bytes words.now)) → files.new ≡ files.old }
@@ -542,8 +579,10 @@ pub(crate) fn prepare<F: NamedFiles>(
     ensures asked { AsksOnly (Reaches (F.state files.old).held (map string_bytes words.now)) (F.state files.old).asked (F.state files.new).asked }
     ensures once { ReadsOnce (F.state files.old).held (map string_bytes words.now) (F.state files.old) (F.state files.new) }
 {
-    match read_asked(alloc, words) {
-        Ok(asked) => job_asked(alloc, files, &asked),
+    match read_line(alloc, words) {
+        Ok(CommandLine::Asked(asked)) => script_asked(alloc, files, &asked),
+        Ok(CommandLine::Replay(name)) => changes_asked(alloc, files, name.as_str()),
+        Ok(CommandLine::NotOfForm) => Err(Status::Usage),
         Err(status) => Err(status),
     }
 }

@@ -2,9 +2,10 @@
 
 ghost use Rattle.std.specs.Prelude.{◌≡◌, IfOk, string_bytes};
 ghost use Rattle.std.specs.Cow.{cow_str_bytes};
-ghost use Rattle.surge_cli.specs.StatusText.{status_number, status_line, file_text, kind_text, fault_line};
+ghost use Rattle.surge_cli.specs.StatusText.{status_number, status_line, file_text, kind_text, fault_line, replay_line};
 
 use crate::script_line::{ScriptRefusal, script_line};
+use change_text::ReplayFault;
 use graph_loader::{DataFault, DataFile, DataKind};
 use std::alloc::Global;
 use std::borrow::CowStr;
@@ -18,6 +19,8 @@ pub enum FileRole {
     Edges,
     /// A further file of edges, which the statement with this number inserts.
     Insert(u32),
+    /// A change text, whose tables are written.
+    Changes,
 }
 
 /// How a run of the program ended.
@@ -39,6 +42,8 @@ pub enum Status {
     WriteFault,
     /// A request for memory was refused.
     NoMemory,
+    /// The change text has this fault. One of more than 2^28 bytes is too large.
+    Replay(ReplayFault),
 }
 
 // The name of a data file in a line.
@@ -82,6 +87,18 @@ fn fault_line(alloc: Global, fault: DataFault) -> Result<String, NoMemory>
     Ok(format!(in alloc; "surge: data: {file} record {row} column {column}: {kind}\n")?)
 }
 
+// The line of a fault in a change text.
+fn replay_line(alloc: Global, fault: ReplayFault) -> Result<CowStr<'static, Global>, NoMemory>
+    ensures { IfOk result (λ line. cow_str_bytes line ≡ replay_line fault) }
+{
+    match fault {
+        ReplayFault::Line(line) => Ok(CowStr::Owned(format!(in alloc;
+            "surge: replay: line {line}\n"
+        )?)),
+        ReplayFault::TooLarge => fixed("surge: replay: TooLarge\n"),
+    }
+}
+
 fn fixed(line: &'static str) -> Result<CowStr<'static, Global>, NoMemory>
     ensures { IfOk result (λ text. cow_str_bytes text ≡ line.entry.now) }
 {
@@ -102,6 +119,7 @@ impl Status {
             Status::ReadFault => 6,
             Status::WriteFault => 7,
             Status::NoMemory => 8,
+            Status::Replay(_) => 10,
         }
     }
 
@@ -113,7 +131,7 @@ impl Status {
         match self {
             Status::Done => fixed(""),
             Status::Usage => fixed(
-                "surge: usage: surge (--script FILE | --sample N) [--mode run|check|summary] [--turns N]\n",
+                "surge: usage: surge (--script FILE | --sample N | --replay FILE) [--mode run|check|summary|changes] [--turns N]\n",
             ),
             Status::Absent(FileRole::Script) => fixed("surge: absent: script\n"),
             Status::Absent(FileRole::Nodes) => fixed("surge: absent: nodes\n"),
@@ -121,11 +139,13 @@ impl Status {
             Status::Absent(FileRole::Insert(statement)) => Ok(CowStr::Owned(format!(in alloc;
                 "surge: absent: insert {statement}\n"
             )?)),
+            Status::Absent(FileRole::Changes) => fixed("surge: absent: changes\n"),
             Status::Data(fault) => Ok(CowStr::Owned(fault_line(alloc, *fault)?)),
             Status::Script(fault) => Ok(CowStr::Owned(script_line(alloc, *fault)?)),
             Status::ReadFault => fixed("surge: read fault\n"),
             Status::WriteFault => fixed("surge: write fault\n"),
             Status::NoMemory => fixed("surge: out of memory\n"),
+            Status::Replay(fault) => replay_line(alloc, *fault),
         }
     }
 }

@@ -1,10 +1,10 @@
 //! The words of the command line, read by `clap`.
 
-ghost use Rattle.std.specs.Prelude.{◌≡◌, map, option_map, string_bytes, IfOk};
+ghost use Rattle.std.specs.Prelude.{◌≡◌, is_some, map, option_map, string_bytes, IfOk};
 ghost use Rattle.std.specs.Char.{is_ascii_digit};
 ghost use Rattle.std.specs.List.{list_all};
 ghost use Rattle.clap.specs.Words.{app_of, first_of, found_of, rows_of};
-ghost use Rattle.surge_cli.specs.Words.{command, matched, number_of, file_of, source_of, mode_named, mode_of, turns_of, joined, request_from, request_of, task_of, asked_of, command_line};
+ghost use Rattle.surge_cli.specs.Words.{command, matched, number_of, file_of, source_of, mode_named, mode_of, turns_of, joined, request_from, task_of, asked_of, line_of, is_accompanied, replay_of, line_from, command_line};
 
 use clap::error::ErrorKind;
 use clap::{Arg, ArgMatches, Command};
@@ -30,6 +30,8 @@ pub(crate) enum Mode {
     Check,
     /// It is run, and a line for each table is written.
     Summary,
+    /// It is run, and its tables are written as a change text.
+    Changes,
 }
 
 /// What the words of the command line ask for.
@@ -65,12 +67,14 @@ pub(crate) enum CommandLine {
     NotOfForm,
     /// They ask for a script.
     Asked(Asked),
+    /// They ask for the tables of the change text in the file of this name, which is not empty.
+    Replay(Text),
 }
 
 /// A number has at most so many digits, leading zeros among them.
 const MOST_DIGITS: usize = 20;
 
-// Four options that each take one text, without flags for help and for the version.
+// Five options that each take one text, without flags for help and for the version.
 fn command<'a>(alloc: Global) -> Result<Command<'a>, NoMemory>
     ensures { IfOk result (λ c. app_of c ≡ command) }
 {
@@ -80,6 +84,7 @@ fn command<'a>(alloc: Global) -> Result<Command<'a>, NoMemory>
             .disable_version_flag(true)
             .arg(Arg::new(alloc, "script").long("script"))?
             .arg(Arg::new(alloc, "sample").long("sample"))?
+            .arg(Arg::new(alloc, "replay").long("replay"))?
             .arg(Arg::new(alloc, "mode").long("mode"))?
             .arg(Arg::new(alloc, "turns").long("turns"))?,
     )
@@ -150,6 +155,8 @@ fn mode_named(text: &str) -> Option<Mode>
         Some(Mode::Check)
     } else if text == "summary" {
         Some(Mode::Summary)
+    } else if text == "changes" {
+        Some(Mode::Changes)
     } else {
         None
     }
@@ -209,16 +216,6 @@ fn request_from(alloc: Global, matches: &ArgMatches<'_>) -> Result<Option<Reques
     Ok(joined(source, mode, turns))
 }
 
-// What the words ask for, or none where they are not of the form. The first word is the program's name.
-fn read_words(alloc: Global, words: &[String]) -> Result<Option<Request>, NoMemory>
-    ensures { IfOk result (λ request. request ≡ request_of (map string_bytes words.now)) }
-{
-    match matches(alloc, words)? {
-        Some(matches) => request_from(alloc, &matches),
-        None => Ok(None),
-    }
-}
-
 // What is done in a mode.
 fn task_of(mode: Mode, turns: Option<u64>) -> Task
     ensures { result ≡ task_of mode turns }
@@ -226,6 +223,7 @@ fn task_of(mode: Mode, turns: Option<u64>) -> Task
     match mode {
         Mode::Run => Task::Run(Form::Tables, turns),
         Mode::Summary => Task::Run(Form::Summary, turns),
+        Mode::Changes => Task::Run(Form::Changes, turns),
         Mode::Check => Task::Check,
     }
 }
@@ -245,13 +243,61 @@ fn asked_of(request: Request) -> Asked
     }
 }
 
+// What the options ask for of a script, where no change text is named.
+fn line_of(alloc: Global, matches: &ArgMatches<'_>) -> Result<CommandLine, NoMemory>
+    ensures { IfOk result (λ line. line ≡ line_of (request_from (rows_of (found_of matches.now)))) }
+{
+    match request_from(alloc, matches)? {
+        Some(request) => Ok(CommandLine::Asked(asked_of(request))),
+        None => Ok(CommandLine::NotOfForm),
+    }
+}
+
+// Whether an option was given.
+fn is_given(matches: &ArgMatches<'_>, option: &str) -> bool
+    ensures { result ≡ is_some (first_of option.now (rows_of (found_of matches.now))) }
+{
+    text_of(matches, option).is_some()
+}
+
+// Whether options were given beside the change text: none may stand there.
+fn is_accompanied(matches: &ArgMatches<'_>) -> bool
+    ensures { result ≡ is_accompanied (rows_of (found_of matches.now)) }
+{
+    is_given(matches, "script")
+        || is_given(matches, "sample")
+        || is_given(matches, "mode")
+        || is_given(matches, "turns")
+}
+
+// What the options ask for, where they name a change text.
+fn replay_of(alloc: Global, name: &str, matches: &ArgMatches<'_>) -> Result<CommandLine, NoMemory>
+    ensures { IfOk result (λ line. line ≡ replay_of name.now (is_accompanied (rows_of (found_of matches.now)))) }
+{
+    if name.is_empty() || is_accompanied(matches) {
+        return Ok(CommandLine::NotOfForm);
+    }
+    let name = Text::from_string(String::from_str(alloc, name)?);
+    Ok(CommandLine::Replay(name))
+}
+
+// What the options ask for.
+fn line_from(alloc: Global, matches: &ArgMatches<'_>) -> Result<CommandLine, NoMemory>
+    ensures { IfOk result (λ line. line ≡ line_from (rows_of (found_of matches.now))) }
+{
+    match text_of(matches, "replay") {
+        Some(name) => replay_of(alloc, name, matches),
+        None => line_of(alloc, matches),
+    }
+}
+
 /// What the words come to. The first word is the program's name.
 #[tactic(auto, unfolding(crate::specs::Words::command_line))]
 pub(crate) fn command_line(alloc: Global, words: &[String]) -> Result<CommandLine, NoMemory>
     ensures { IfOk result (λ line. line ≡ command_line (map string_bytes words.now)) }
 {
-    match read_words(alloc, words) {
-        Ok(Some(request)) => Ok(CommandLine::Asked(asked_of(request))),
+    match matches(alloc, words) {
+        Ok(Some(matches)) => line_from(alloc, &matches),
         Ok(None) => Ok(CommandLine::NotOfForm),
         Err(NoMemory) => Err(NoMemory),
     }

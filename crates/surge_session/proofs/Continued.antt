@@ -3,7 +3,7 @@ use Rattle.std.proofs.Common.{◌≡◌, ◌∙◌, ◌+◌, ◌-◌, ◌<◌, �
 use Rattle.std.specs.Prelude.{sum_by, All, ◌==◌, ◌&&◌, nat_lt, if◌then◌else◌, option_map}
 use Rattle.std.specs.List.{range_with_len}
 use Rattle.std.proofs.Math.Seq.{take-add}
-use Rattle.std.proofs.lemmas.List.{take-append-le, length-map}
+use Rattle.std.proofs.lemmas.List.{take-append-le, length-map, map-append}
 use Rattle.std.proofs.lemmas.List.Elements.{All-append}
 use Rattle.std.proofs.lemmas.List.FromFn.{length-range_with_len, get_or-range_with_len}
 use Rattle.std.proofs.lemmas.List.Sums.{sum_by-append}
@@ -30,8 +30,9 @@ use Rattle.result_tables.specs.declared.form.Form.{Form}
 use Rattle.view_engine.specs.Splits.{segments_of}
 use Rattle.surge_session.specs.Live.{LiveGraph, graph_at, live_at}
 use Rattle.surge_session.specs.Aggregates.{aggregate_text}
-use Rattle.surge_session.specs.Output.{list_of, view_text, tables_text, order_text, tree_text, views_before, views_added, made_at, kept_as, keeps, kept_at, first_order, longer_order, order_after, order_at, run_task, task_at, segments_at, named_work, run_text, kept_text, edit_text, work_text, text_of, step_text, plan_text}
+use Rattle.surge_session.specs.Output.{list_of, view_shown, tables_in, tables_text, order_text, tree_text, views_before, views_added, made_at, kept_as, keeps, kept_at, first_order, longer_order, order_after, order_at, run_task, task_at, segments_at, named_work, run_text, kept_text, edit_text, work_text, shown_in, text_of, step_text, plan_text}
 use Rattle.surge_session.specs.Continuing.{Runs, IsAgain, NoneBetween, KeepsTexts}
+use Rattle.surge_session.proofs.Blocks.{more_tables}
 use Rattle.surge_session.proofs.GrownViews.{HasGrown, same_tables, same_first, same_longer, same_order_text, same_tree_text, same_aggregates}
 use Rattle.surge_session.proofs.GrownLive.{has_grown, all_passed}
 use Rattle.surge_session.proofs.GrownWork.{same_named_work}
@@ -404,22 +405,22 @@ module _ (answer : Answer) (form : Form) (g h : GraphData) (p q : Plan) (fits : 
 
   same_order_shown : (n place : ℕ) → n < length p.steps → place < length p.collections → text_of answer form h q n (step.ShowOrder place) ≡ text_of answer form g p n (step.ShowOrder place)
   same_order_shown n place lt within =
-      same_shown n place (order_text (graph_at h q (n + 1))) (omega (arith, lt)) within
+      ap (shown_in form) (same_shown n place (order_text (graph_at h q (n + 1))) (omega (arith, lt)) within
       ∙ ap (λ (text : List ℕ → List ViewPlan → List ℕ). list_of (λ (c : CollectionPlan). text c.name (views_before p n c place)) (slice_get p.collections place))
-      (λ i name views. same_order_text (graph_at g p (n + 1)) (graph_at h q (n + 1)) (grown (n + 1) (omega (arith, lt))) name views i)
+      (λ i name views. same_order_text (graph_at g p (n + 1)) (graph_at h q (n + 1)) (grown (n + 1) (omega (arith, lt))) name views i))
 
   same_tree_shown : (n place : ℕ) → n < length p.steps → place < length p.collections → text_of answer form h q n (step.ShowTree place) ≡ text_of answer form g p n (step.ShowTree place)
   same_tree_shown n place lt within =
-      same_shown n place (tree_text (graph_at h q (n + 1))) (omega (arith, lt)) within
+      ap (shown_in form) (same_shown n place (tree_text (graph_at h q (n + 1))) (omega (arith, lt)) within
       ∙ ap (λ (text : List ℕ → List ViewPlan → List ℕ). list_of (λ (c : CollectionPlan). text c.name (views_before p n c place)) (slice_get p.collections place))
-      (λ i name views. same_tree_text (graph_at g p (n + 1)) (graph_at h q (n + 1)) (grown (n + 1) (omega (arith, lt))) name views i)
+      (λ i name views. same_tree_text (graph_at g p (n + 1)) (graph_at h q (n + 1)) (grown (n + 1) (omega (arith, lt))) name views i))
 
   same_counted : (n place by : ℕ) (sum : Option ℕ) → n < length p.steps → place < length p.collections → HasSumColumn g sum
       → text_of answer form h q n (step.Aggregate place by sum) ≡ text_of answer form g p n (step.Aggregate place by sum)
   same_counted n place by sum lt within has =
-      same_shown n place (λ name views. flat_map (aggregate_text (graph_at h q (n + 1)) by sum name) views) (omega (arith, lt)) within
+      ap (shown_in form) (same_shown n place (λ name views. flat_map (aggregate_text (graph_at h q (n + 1)) by sum name) views) (omega (arith, lt)) within
       ∙ ap (λ (text : List ℕ → List ViewPlan → List ℕ). list_of (λ (c : CollectionPlan). text c.name (views_before p n c place)) (slice_get p.collections place))
-      (λ i name views. same_aggregates (graph_at g p (n + 1)) (graph_at h q (n + 1)) (grown (n + 1) (omega (arith, lt))) by sum has name views i)
+      (λ i name views. same_aggregates (graph_at g p (n + 1)) (graph_at h q (n + 1)) (grown (n + 1) (omega (arith, lt))) by sum has name views i))
 
   same_text : (n : ℕ) (s : Step) → n < length p.steps → StepKnows p s → ColumnsFit g s → text_of answer form h q n s ≡ text_of answer form g p n s
   same_text n step.Nothing lt known columns = refl
@@ -427,7 +428,7 @@ module _ (answer : Answer) (form : Form) (g h : GraphData) (p q : Plan) (fits : 
   same_text n (step.Run place) lt known columns = same_run n place lt known
   same_text n (step.Append place first count) lt known columns = same_append_text n place first count lt known
   same_text n (step.ShowOrder place) lt known columns = same_order_shown n place lt known
-  same_text n (step.ShowWork place) lt known columns = same_work_text n place (omega (arith, lt)) known
+  same_text n (step.ShowWork place) lt known columns = ap (shown_in form) (same_work_text n place (omega (arith, lt)) known)
   same_text n (step.ShowTree place) lt known columns = same_tree_shown n place lt known
   same_text n (step.Insert first count) lt known columns = same_edit_text n lt
   same_text n (step.Remove rule) lt known columns = same_edit_text n lt
@@ -516,14 +517,17 @@ module _ (answer : Answer) (form : Form) (g h : GraphData) (p q : Plan) (fits : 
       run_grows : IsFront (run_text answer form g p m first) (run_text answer form h q n second)
       unfolding after
       run_grows =
-          let before = graph_at g p (m + 1) in (
-            tables_text answer form before first c.name added,
+          let before = graph_at g p (m + 1) in
+          let shown = view_shown answer before first c.name in
+          let grow = more_tables form g (map shown (views_before p m c first.collection)) (map shown added) in (
+            grow.0,
             run_with answer form h q n second (Some after) second_at
                 ∙ ap (λ (k : ℕ). tables_text answer form (graph_at h q (n + 1)) second after.name (views_before q n after k)) same.collection
                 ∙ ap₂ (λ (name : List ℕ) (views : List ViewPlan). tables_text answer form (graph_at h q (n + 1)) second name views) (grows first.collection c at).name views_grow
                 ∙ again same c.name (views_before p m c first.collection ++ added)
-                ∙ flat_map-append (view_text answer form before first c.name) (views_before p m c first.collection) added
-                ∙ ap (λ (x : List ℕ). x ++ tables_text answer form before first c.name added) (sym (run_with answer form g p m first (Some c) at)),
+                ∙ ap (tables_in form g) (map-append shown (views_before p m c first.collection) added)
+                ∙ grow.1
+                ∙ ap (λ (x : List ℕ). x ++ grow.0) (sym (run_with answer form g p m first (Some c) at)),
           )
 
     same_program : IsAgain first second → IsSameRun first second

@@ -1,6 +1,6 @@
 -- Where a graph gets edges of which none is live, its views are what they were: their edges, their distances, their answers and
 -- their tables.
-use Rattle.std.proofs.Common.{◌≡◌, ◌∙◌, ℕ, ◌≤◌, ◌<◌, ◌-◌, List, ◌++◌, length, map, flat_map, filter, Bool, false, ◌&&◌, Option, Some, None, slice_get, refl, ap, ap₂, codes, All}
+use Rattle.std.proofs.Common.{◌≡◌, ◌∙◌, ℕ, ◌≤◌, ◌<◌, ◌-◌, List, [], ◌∷◌, ◌++◌, length, drop, map, flat_map, filter, get_or, Bool, false, ◌&&◌, Option, Some, None, slice_get, refl, ap, ap₂, codes, All}
 use Rattle.std.specs.Prelude.{sum_by}
 use mathlib.Core.Path.{fun_ext}
 use Rattle.std.specs.List.{range_with_len, last_or}
@@ -8,10 +8,16 @@ use Rattle.std.proofs.lemmas.List.Elements.{All-map}
 use Rattle.std.specs.Fmt.{decimal}
 use Rattle.graph_model.specs.declared.cell.Column.{Column}
 use Rattle.graph_model.specs.declared.number.EdgeNo.{EdgeNo}
+use Rattle.graph_model.specs.declared.number.NodeNo.{NodeNo}
+use Rattle.graph_model.specs.declared.value.Val.{Val}
+use Rattle.graph_model.specs.declared.value.Val.TheVariants.{Nil}
+use Rattle.graph_model.specs.GraphData.{nodes_by_id}
 use Rattle.edge_predicates.specs.declared.pred.ViewRule.{ViewRule}
 use Rattle.edge_predicates.specs.Truth.{rule_truth}
 use Rattle.edge_predicates.specs.ViewEdges.{edges_of}
 use Rattle.vertex_lang.specs.declared.lone.Lone.{Lone}
+use Rattle.vertex_lang.specs.declared.lone.Outcome.{Outcome}
+use Rattle.vertex_lang.specs.declared.lone.Outcome.TheVariants as outcome
 use Rattle.vertex_lang.specs.Arcs.{arcs_between}
 use Rattle.vertex_lang.specs.Expressions.{Answer}
 use Rattle.vertex_lang.specs.Lone.{number_of}
@@ -24,12 +30,20 @@ use Rattle.tree_order.specs.Trees.{tree, tree_walk, views_of, walked, weight}
 use Rattle.aggregate_views.specs.declared.cell.GroupRow.{GroupRow}
 use Rattle.aggregate_views.specs.Rows.{HasSumColumn, rows_of}
 use Rattle.result_tables.specs.declared.form.Form.{Form}
-use Rattle.result_tables.specs.TableText.{table_of, head_text, form_text, line_end}
+use Rattle.result_tables.specs.declared.form.Form.TheVariants as form
+use Rattle.result_tables.specs.declared.table.Table.{Table}
+use Rattle.result_tables.specs.TableText.{table_of, head_text, line_end}
+use Rattle.change_text.specs.declared.kind.Kind.{Kind}
+use Rattle.change_text.specs.declared.kind.Kind.TheVariants as kind
+use Rattle.change_text.specs.declared.row.Row.{Row}
+use Rattle.change_text.specs.Blocks.{Block}
+use Rattle.change_text.specs.Spelling.{changes_text}
+use Rattle.change_text.specs.Writing.{changed_rows, is_changed, kind_behind, row_of, rows_behind, table_rows}
 use Rattle.grown_graphs.specs.Growing.{AreEdgesOf, GrowsTo}
 use Rattle.grown_graphs.specs.Laws.{same-views, same-answers, same-phases, same-rows, same-tables}
 use Rattle.surge_session.specs.Live.{LiveGraph, is_live, live_edges}
 use Rattle.surge_session.specs.Aggregates.{row_line, column_name, sum_name, aggregate_head, aggregate_text}
-use Rattle.surge_session.specs.Output.{list_of, view_arcs, answer_over, view_answer, view_text, tables_text, edges_at, difference, with_distances, order_line, order_text, branch_line, tree_text, begun_in, in_order, first_order, longer_order}
+use Rattle.surge_session.specs.Output.{Shown, list_of, view_arcs, answer_over, view_answer, view_shown, alone, block_behind, blocks_behind, tables_in, tables_text, edges_at, difference, with_distances, order_line, order_text, branch_line, tree_text, begun_in, in_order, first_order, longer_order}
 use Rattle.surge_session.proofs.ViewEdges.{live_edges_within}
 
 -- the second graph has more edges behind those of the first, and none of these is live
@@ -46,6 +60,47 @@ module _ (w x : LiveGraph) (grown : HasGrown w x) where
       ap (λ (picks : ℕ → Bool). filter (λ (e : EdgeNo). picks e.0 && rule_truth x.graph e.0 rule) (edges_of x.graph)) (fun_ext grown.live)
       ∙ same-views w.graph x.graph (is_live w.live) rule grown.graph grown.none
 
+  -- ---- tables
+
+  same_row : (values : List Val) (n : NodeNo) → row_of x.graph values n ≡ row_of w.graph values n
+  same_row values n = ap (λ (ids : List ℕ). let r : Row = record { id = get_or ids n.0 0; value = get_or values n.0 Nil } in r) grown.graph.ids
+
+  all_rows : (values : List Val) → map (row_of x.graph values) (nodes_by_id x.graph.ids) ≡ map (row_of w.graph values) (nodes_by_id w.graph.ids)
+  all_rows values = ap (λ f. map f (nodes_by_id x.graph.ids)) (fun_ext (same_row values)) ∙ ap (λ (ids : List ℕ). map (row_of w.graph values) (nodes_by_id ids)) grown.graph.ids
+
+  same_table_rows : (o : Outcome) (values : List Val) → table_rows x.graph o values ≡ table_rows w.graph o values
+  same_table_rows (outcome.Settled r) values = all_rows values
+  same_table_rows (outcome.After r) values = all_rows values
+  same_table_rows (outcome.Phases r) values = all_rows values
+  same_table_rows outcome.Unsettled values = refl
+
+  same_changed : (before values : List Val) → changed_rows x.graph before values ≡ changed_rows w.graph before values
+  same_changed before values =
+      ap (λ f. map f (filter (is_changed before values) (nodes_by_id x.graph.ids))) (fun_ext (same_row values))
+      ∙ ap (λ (ids : List ℕ). map (row_of w.graph values) (filter (is_changed before values) (nodes_by_id ids))) grown.graph.ids
+
+  same_rows_behind : (k : Kind) (before : Option Table) (table : Table) → rows_behind k x.graph before table ≡ rows_behind k w.graph before table
+  same_rows_behind kind.Full before table = same_table_rows table.outcome table.values
+  same_rows_behind kind.Change None table = same_table_rows table.outcome table.values
+  same_rows_behind kind.Change (Some before) table = same_changed before.values table.values
+
+  same_block : (before : Option Table) (shown : Shown) → block_behind x.graph before shown ≡ block_behind w.graph before shown
+  same_block before shown =
+      let how : Kind = kind_behind before shown.table in
+      ap (λ (rows : List Row). let b : Block = record { kind = how; head = drop 5 shown.head; outcome = shown.table.outcome; rows = rows } in b) (same_rows_behind how before shown.table)
+
+  same_blocks : (before : Option Table) (tables : List Shown) → blocks_behind x.graph before tables ≡ blocks_behind w.graph before tables
+  same_blocks before [] = refl
+  same_blocks before (shown ∷ more) = ap₂ (λ (b : Block) (bs : List Block). b ∷ bs) (same_block before shown) (same_blocks (Some shown.table) more)
+
+  same_alone : (in_form : Form) (shown : Shown) → alone in_form x.graph shown ≡ alone in_form w.graph shown
+  same_alone in_form shown = same-tables w.graph x.graph in_form shown.head shown.edges shown.table grown.graph
+
+  same_in : (in_form : Form) (tables : List Shown) → tables_in in_form x.graph tables ≡ tables_in in_form w.graph tables
+  same_in form.Tables tables = ap (λ f. flat_map f tables) (fun_ext (same_alone form.Tables))
+  same_in form.Summary tables = ap (λ f. flat_map f tables) (fun_ext (same_alone form.Summary))
+  same_in form.Changes tables = ap changes_text (same_blocks None tables)
+
   module _ (answer : Answer) (run : RunPlan) where
     same_over : (rule : ViewRule) (phases : Option ℕ) → answer_over answer x.graph run (view_arcs x run rule) phases ≡ answer_over answer w.graph run (view_arcs w run rule) phases
     same_over rule None =
@@ -58,14 +113,13 @@ module _ (w x : LiveGraph) (grown : HasGrown w x) where
     same_answer : (rule : ViewRule) → view_answer answer x run rule ≡ view_answer answer w run rule
     same_answer rule = same_over rule run.phases
 
-    same_view : (form : Form) (name : List ℕ) (view : ViewPlan) → view_text answer form x run name view ≡ view_text answer form w run name view
-    same_view form name view =
-        let head = head_text name view.name (canonical_call run.call) in
-        ap₂ (λ (edges : List EdgeNo) (l : Lone). form_text form head (length edges) x.graph (table_of l)) (same_edges view.rule) (same_answer view.rule)
-        ∙ same-tables w.graph x.graph form head (length (live_edges w view.rule)) (table_of (view_answer answer w run view.rule)) grown.graph
+    same_shown : (name : List ℕ) (view : ViewPlan) → view_shown answer x run name view ≡ view_shown answer w run name view
+    same_shown name view =
+        ap₂ (λ (edges : List EdgeNo) (l : Lone). let s : Shown = record { head = head_text name view.name (canonical_call run.call); edges = length edges; table = table_of l } in s) (same_edges view.rule) (same_answer view.rule)
 
-    pub same_tables : (form : Form) (name : List ℕ) (views : List ViewPlan) → tables_text answer form x run name views ≡ tables_text answer form w run name views
-    same_tables form name views = ap (λ f. flat_map f views) (fun_ext (same_view form name))
+    pub same_tables : (in_form : Form) (name : List ℕ) (views : List ViewPlan) → tables_text answer in_form x run name views ≡ tables_text answer in_form w run name views
+    same_tables in_form name views =
+        ap (λ f. tables_in in_form x.graph (map f views)) (fun_ext (same_shown name)) ∙ same_in in_form (map (view_shown answer w run name) views)
 
   -- ---- orders
 

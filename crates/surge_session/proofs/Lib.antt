@@ -10,12 +10,14 @@ pub mod GrownWork
 pub mod Turning
 pub mod Places
 pub mod Keeping
+pub mod Shows
 pub mod Ordering
 pub mod Grouping
 pub mod TreePlaces
 pub mod Distinct
 pub mod Running
 pub mod Telling
+pub mod Blocks
 pub mod RunOrders
 pub mod WorkTexts
 pub mod Stating
@@ -26,3 +28,9 @@ pub mod Following
 pub mod Lending
 pub mod Walking
 pub mod Continued
+pub mod CallLines
+pub mod TableBlocks
+pub mod BlockRuns
+pub mod Pieces
+pub mod ComingBack
+pub mod ReplayLaw

@@ -26,19 +26,20 @@ split_at f (y ∷ ys) (suc i) x lt is = ap (λ t. f y ++ t) (split_at f ys i x (
 middle : (a p b : List ℕ) (n : ℕ) → n ≤ length p → take (length a + n) (a ++ (p ++ b)) ≡ a ++ take n p
 middle a p b n le = take-append-add a (p ++ b) n ∙ ap (λ (x : List ℕ). a ++ x) (take-append-le n p b le)
 
+-- a front of a piece that stands behind a part which was written whole is a front of all
+pub front_within : (old mid new : Option (List ℕ)) (before piece behind all : List ℕ) → all ≡ before ++ (piece ++ behind) → mid ≡ appended old before → GrewByFront mid new piece → GrewByFront old new all
+front_within old mid new before piece behind all whole so_far grew =
+    let front : take (length before + grew.0) all ≡ before ++ take grew.0 piece = ap (λ (t : List ℕ). take (length before + grew.0) t) whole ∙ middle before piece behind grew.0 grew.1 in (
+      length before + grew.0,
+      omega (arith, ap (λ (t : List ℕ). length t) whole, length-append before (piece ++ behind), length-append piece behind, grew.1),
+      grew.2 ∙ ap (λ m. appended m (take grew.0 piece)) so_far ∙ appended-append old before (take grew.0 piece) ∙ ap (λ (t : List ℕ). appended old t) (sym front),
+    )
+
 -- a front of the piece at i, behind the whole pieces before it, is a front of all
 pub front_of_all : {X : Type 0} (f : X → List ℕ) (xs : List X) (i : ℕ) (x : X) (old mid new : Option (List ℕ)) → i < length xs → x ≡ get_or xs i x
     → mid ≡ appended old (flat_map f (take i xs)) → GrewByFront mid new (f x) → GrewByFront old new (flat_map f xs)
 front_of_all f xs i x old mid new lt is so_far piece =
-    let before : List ℕ = flat_map f (take i xs) in
-    let behind : List ℕ = flat_map f (drop (suc i) xs) in
-    let whole : flat_map f xs ≡ before ++ (f x ++ behind) = split_at f xs i x lt is in
-    let front : take (length before + piece.0) (flat_map f xs) ≡ before ++ take piece.0 (f x) =
-    ap (λ (t : List ℕ). take (length before + piece.0) t) whole ∙ middle before (f x) behind piece.0 piece.1 in (
-      length before + piece.0,
-      omega (arith, ap (λ (t : List ℕ). length t) whole, length-append before (f x ++ behind), length-append (f x) behind, piece.1),
-      piece.2 ∙ ap (λ m. appended m (take piece.0 (f x))) so_far ∙ appended-append old before (take piece.0 (f x)) ∙ ap (λ (t : List ℕ). appended old t) (sym front),
-    )
+    front_within old mid new (flat_map f (take i xs)) (f x) (flat_map f (drop (suc i) xs)) (flat_map f xs) (split_at f xs i x lt is) so_far piece
 
 same_default : {X : Type 0} (xs : List X) (i : ℕ) (d : X) → i < length xs → get_or xs i d ≡ get_or xs i (get_or xs i d)
 same_default [] i d lt = absurd (omega arith)

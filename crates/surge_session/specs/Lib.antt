@@ -11,3 +11,4 @@ pub mod Sessions
 pub mod SessionInside
 pub mod Faults
 pub mod Continuing
+pub mod Replays

@@ -1,5 +1,5 @@
 -- What the statements of a plan print.
-use Rattle.std.specs.Prelude.{IfSome, ℕ, zero, suc, ◌+◌, ◌-◌, ◌≤◌, ◌==◌, ◌&&◌, nat_lt, if◌then◌else◌, List, [], ◌∷◌, ◌++◌, length, flat_map, take, drop, sum_by, slice_get, codes, Option, Some, None}
+use Rattle.std.specs.Prelude.{IfSome, ℕ, zero, suc, ◌+◌, ◌-◌, ◌≤◌, ◌==◌, ◌&&◌, nat_lt, Bool, true, false, if◌then◌else◌, List, [], ◌∷◌, ◌++◌, length, map, flat_map, take, drop, sum_by, slice_get, codes, Option, Some, None}
 use Rattle.std.specs.List.{range_with_len, last_or}
 use Rattle.std.specs.Fmt.{decimal}
 use Rattle.graph_model.specs.declared.number.EdgeNo.{EdgeNo}
@@ -21,13 +21,19 @@ use Rattle.gvdl_check.specs.declared.plan.RunPlan.{RunPlan}
 use Rattle.gvdl_check.specs.declared.plan.Step.{Step}
 use Rattle.gvdl_check.specs.declared.plan.Step.TheVariants as step
 use Rattle.gvdl_check.specs.declared.plan.Plan.{Plan}
+use Rattle.gvdl_check.specs.Shows.{is_show}
 use Rattle.gvdl_check.specs.Steps.{views_at, runs_at}
 use Rattle.gvdl_printer.specs.Canonical.{canonical_call}
 use Rattle.view_matrix.specs.Matrices.{in_exactly_one}
 use Rattle.view_order.specs.Greedy.{greedy}
 use Rattle.tree_order.specs.Trees.{Branch, tree, tree_walk, views_of, walked, weight}
 use Rattle.result_tables.specs.declared.form.Form.{Form}
+use Rattle.result_tables.specs.declared.form.Form.TheVariants as form
+use Rattle.result_tables.specs.declared.table.Table.{Table}
 use Rattle.result_tables.specs.TableText.{table_of, head_text, line_end, form_text}
+use Rattle.change_text.specs.Blocks.{Block}
+use Rattle.change_text.specs.Spelling.{changes_text}
+use Rattle.change_text.specs.Writing.{block_of}
 use Rattle.view_segment.specs.Tasks.{Task, works_of}
 use Rattle.view_engine.specs.Splits.{segments_of}
 use Rattle.surge_session.specs.Live.{LiveGraph, graph_at, live_edges}
@@ -53,14 +59,55 @@ answer_over answer g run arcs (Some phases) = phases_answer answer run.program g
 abbrev pub view_answer : Answer → LiveGraph → RunPlan → ViewRule → Lone
 view_answer answer w run rule = answer_over answer w.graph run (view_arcs w run rule) run.phases
 
--- the text of the view's table in a form, in the collection of this name
+-- what the text of a view's table says: what the table is of, how many edges the view has, and the table
+pub record Shown : Type 0 where
+  pub head : List ℕ
+  pub edges : ℕ
+  pub table : Table
+
+abbrev pub view_shown : Answer → LiveGraph → RunPlan → List ℕ → ViewPlan → Shown
+view_shown answer w run collection view = record {
+  head = head_text collection view.name (canonical_call run.call);
+  edges = length (live_edges w view.rule);
+  table = table_of (view_answer answer w run view.rule);
+}
+
+-- the text of the view's table alone in a form, in the collection of this name
+abbrev pub alone : Form → GraphData → Shown → List ℕ
+alone form g shown = form_text form shown.head shown.edges g shown.table
+
 abbrev pub view_text : Answer → Form → LiveGraph → RunPlan → List ℕ → ViewPlan → List ℕ
-view_text answer form w run collection view =
-    form_text form (head_text collection view.name (canonical_call run.call)) (length (live_edges w view.rule)) w.graph (table_of (view_answer answer w run view.rule))
+view_text answer form w run collection view = alone form w.graph (view_shown answer w run collection view)
+
+-- its block behind the table before, if there is one
+abbrev pub block_behind : GraphData → Option Table → Shown → Block
+block_behind g before shown = block_of shown.head g before shown.table
+
+-- tables as blocks, each behind the one before it
+abbrev pub blocks_behind : GraphData → Option Table → List Shown → List Block
+blocks_behind g before [] = []
+blocks_behind g before (shown ∷ more) = block_behind g before shown ∷ blocks_behind g (Some shown.table) more
+
+-- the last of the tables, or the one before them where there are none
+abbrev pub last_table : Option Table → List Shown → Option Table
+last_table before [] = before
+last_table before (shown ∷ more) = last_table (Some shown.table) more
+
+-- the form is that of change texts
+abbrev pub is_changes : Form → Bool
+is_changes form.Tables = false
+is_changes form.Summary = false
+is_changes form.Changes = true
+
+-- The tables of a run in a statement, in a form: each alone, or as blocks of a change text, the first of which is full.
+abbrev pub tables_in : Form → GraphData → List Shown → List ℕ
+tables_in form.Tables g tables = flat_map (alone form.Tables g) tables
+tables_in form.Summary g tables = flat_map (alone form.Summary g) tables
+tables_in form.Changes g tables = changes_text (blocks_behind g None tables)
 
 -- the tables of these views, in their order
 abbrev pub tables_text : Answer → Form → LiveGraph → RunPlan → List ℕ → List ViewPlan → List ℕ
-tables_text answer form w run collection views = flat_map (view_text answer form w run collection) views
+tables_text answer form w run collection views = tables_in form w.graph (map (view_shown answer w run collection) views)
 
 -- ---- an order
 
@@ -252,15 +299,23 @@ abbrev pub work_text : Answer → GraphData → Plan → ℕ → ℕ → List �
 work_text answer g p n place =
     list_of (λ run. list_of (λ name. named_work name (task_at answer g p run n) (made_at p n run.collection) (segments_at answer g p run place n)) run.keep) (slice_get p.runs place)
 
+-- what shows something prints nothing in a change text, which has tables alone
+abbrev pub shown_in : Form → List ℕ → List ℕ
+shown_in in_form text = if is_changes in_form then [] else text
+
+-- so such a statement is passed by there
+abbrev pub is_hidden : Form → Step → Bool
+is_hidden in_form s = is_show s && is_changes in_form
+
 abbrev pub text_of : Answer → Form → GraphData → Plan → ℕ → Step → List ℕ
 text_of answer form g p n (step.Run place) = list_of (run_text answer form g p n) (slice_get p.runs place)
 text_of answer form g p n (step.Append place first count) = append_text answer form g p n place
-text_of answer form g p n (step.ShowOrder place) = shown_text g p n place
-text_of answer form g p n (step.ShowWork place) = work_text answer g p n place
-text_of answer form g p n (step.ShowTree place) = shown_tree g p n place
+text_of answer form g p n (step.ShowOrder place) = shown_in form (shown_text g p n place)
+text_of answer form g p n (step.ShowWork place) = shown_in form (work_text answer g p n place)
+text_of answer form g p n (step.ShowTree place) = shown_in form (shown_tree g p n place)
 text_of answer form g p n (step.Insert first count) = edit_text answer form g p n
 text_of answer form g p n (step.Remove rule) = edit_text answer form g p n
-text_of answer form g p n (step.Aggregate place by sum) = groups_text g p n place by sum
+text_of answer form g p n (step.Aggregate place by sum) = shown_in form (groups_text g p n place by sum)
 text_of answer form g p n _ = []
 
 -- the text of this statement

@@ -4,7 +4,8 @@ ghost use Rattle.std.specs.Prelude.{◌≡◌, ◌+◌, ◌≤◌, ℕ, Some, le
 ghost use Rattle.surge_outside.specs.Counts.{HasRisen};
 ghost use Rattle.surge_outside.specs.Written.{GrewByFront, appended};
 ghost use Rattle.gvdl_check.specs.Fits.{PlanFits};
-ghost use Rattle.surge_session.specs.Output.{made_at, kept_text, append_text, shown_text, shown_tree, groups_text, work_text, step_text};
+ghost use Rattle.gvdl_check.specs.Shows.{is_show};
+ghost use Rattle.surge_session.specs.Output.{made_at, kept_text, append_text, is_hidden, shown_text, shown_tree, groups_text, work_text, step_text};
 ghost use Rattle.surge_session.specs.Live.{graph_at};
 ghost use Rattle.surge_session.specs.Works.{added_work, step_work};
 ghost use Rattle.surge_session.specs.State.{IsAt, IsKept, MatricesAt, places_of};
@@ -15,7 +16,7 @@ use crate::kept::Kept;
 use crate::order::write_order;
 use crate::run::{run_first, run_more};
 use crate::state::State;
-use crate::tables::{views_between, write_from};
+use crate::tables::{is_changes, views_between, write_from};
 use crate::tree::write_tree;
 use crate::work::write_work;
 use graph_model::Graph;
@@ -353,6 +354,26 @@ fn execute_make<U: Updater>(
     }
 }
 
+// Whether a statement shows something.
+fn is_show(step: &Step) -> bool
+    ensures { result ≡ is_show step.now }
+{
+    match step {
+        Step::ShowOrder { .. } => true,
+        Step::ShowWork { .. } => true,
+        Step::ShowTree { .. } => true,
+        Step::Aggregate { .. } => true,
+        _ => false,
+    }
+}
+
+// Whether a statement is passed by in a form, since it shows something.
+fn is_hidden(step: &Step, form: Form) -> bool
+    ensures { result ≡ is_hidden form step.now }
+{
+    is_show(step) && is_changes(form)
+}
+
 /// Does what statement `n` asks for, and writes what it prints.
 pub(crate) fn execute<'g, O: Sink, U: Updater>(
     alloc: Global,
@@ -376,6 +397,9 @@ pub(crate) fn execute<'g, O: Sink, U: Updater>(
     ensures faults { O.faults out.old ≤ O.faults out.new }
     ensures failed { result ≡ Err Trouble.Failed → HasRisen (O.faults out.old) (O.faults out.new) }
 {
+    if is_hidden(step, form) {
+        return Ok(());
+    }
     match step {
         Step::Make { collection, count } => {
             execute_make::<U>(alloc, plan, n, *collection, *count, state, graph)

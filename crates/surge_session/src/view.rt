@@ -1,16 +1,19 @@
 //! The answer of a run on a view, and its table.
 
-ghost use Rattle.std.specs.Prelude.{◌≡◌, ◌<◌, ◌≤◌, length, IfOk, OnOk, OnErr};
+ghost use Rattle.std.specs.Prelude.{◌≡◌, ◌<◌, ◌≤◌, length, IfOk, IfErr, OnOk, OnErr, option_copied};
 ghost use Rattle.surge_outside.specs.Counts.{HasRisen};
 ghost use Rattle.surge_outside.specs.Written.{GrewByFront, appended};
 ghost use Rattle.gvdl_printer.specs.Canonical.{canonical_call};
 ghost use Rattle.view_matrix.specs.Matrices.{edges_in};
 ghost use Rattle.result_tables.specs.TableText.{table_of, head_text};
-ghost use Rattle.surge_session.specs.Output.{view_answer, view_text};
+ghost use Rattle.change_text.specs.Spelling.{block_text};
+ghost use Rattle.change_text.specs.Writing.{IsTableBefore};
+ghost use Rattle.surge_session.specs.Output.{block_behind, view_answer, view_shown, view_text};
 ghost use Rattle.surge_session.specs.Live.{live_edges};
 ghost use Rattle.surge_session.specs.State.{HasRunIn, shown_graph};
 
 use crate::kept::RunEngine;
+use change_text::write_change;
 use graph_model::{Graph, ViewNo};
 use gvdl_check::{RunPlan, ViewPlan};
 use gvdl_printer::print_call;
@@ -97,4 +100,41 @@ pub(crate) fn write_view<O: Sink, U: Updater>(
         &answered.table,
         out,
     )
+}
+
+/// Writes the table of a view of the collection of this name, which has this number in its matrix, as a block behind the table
+/// before, and answers the table.
+pub(crate) fn write_block<O: Sink, U: Updater>(
+    alloc: Global,
+    run: &RunPlan,
+    collection: &Text,
+    view: &ViewPlan,
+    matrix: &Matrix,
+    number: ViewNo,
+    engine: &RunEngine,
+    before: Option<&Table>,
+    graph: &Graph,
+    out: &mut O,
+) -> Result<Table, Trouble>
+    requires within { number.0 < length matrix.now.columns }
+    requires shown { edges_in matrix.now number.0 ≡ live_edges (shown_graph graph.now matrix.now) view.now.rule }
+    requires has { HasRunIn U.answer graph.now run.now matrix.now engine.now }
+    requires before { IsTableBefore graph.now (option_copied before) }
+    ensures table { IfOk result (λ table. table ≡ (view_shown U.answer (shown_graph graph.now matrix.now) run.now collection.now view.now).table) }
+    ensures ok { IfOk result (λ table. O.written out.new ≡ appended (O.written out.old) (block_text (block_behind graph.now (option_copied before.entry) (view_shown U.answer (shown_graph graph.now matrix.now) run.now collection.now view.now)))) }
+    ensures err { IfErr result (λ e. GrewByFront (O.written out.old) (O.written out.new) (block_text (block_behind graph.now (option_copied before.entry) (view_shown U.answer (shown_graph graph.now matrix.now) run.now collection.now view.now)))) }
+    ensures faults { O.faults out.old ≤ O.faults out.new }
+    ensures failed { result ≡ Err Trouble.Failed → HasRisen (O.faults out.old) (O.faults out.new) }
+{
+    let answered = match answer_view::<U>(
+        alloc, run, collection, view, matrix, number, engine, graph,
+    ) {
+        Ok(answered) => answered,
+        Err(NoMemory) => return Err(Trouble::NoMemory),
+    };
+    let Answered { head, table, .. } = answered;
+    match write_change(alloc, head.as_slice(), graph, before, &table, out) {
+        Ok(()) => Ok(table),
+        Err(trouble) => Err(trouble),
+    }
 }

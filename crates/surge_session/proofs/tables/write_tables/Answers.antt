@@ -1,44 +1,34 @@
--- Each view stands in the matrix.
-use Rattle.std.proofs.Common.{◌≡◌, ◌<◌, Some, slice_get, length, refl, arith}
-use Rattle.surge_session.specs.Output.{view_text}
+-- Each table alone, or as blocks.
+use Rattle.std.proofs.Common.{◌≡◌, ◌∙◌, ℕ, List, true, false, map, sym, subst}
+use Rattle.std.specs.Prelude.{OnErr, OnOk}
+use Rattle.surge_outside.specs.Written.{GrewByFront, appended}
+use Rattle.surge_session.specs.Output.{is_changes, view_shown}
 use Rattle.surge_session.specs.State.{shown_graph}
-use Rattle.surge_session.proofs.Texts.{found}
-use Rattle.surge_session.proofs.Written.{front_of_all}
+use Rattle.surge_session.proofs.Blocks.{texts_alone, texts_of_blocks}
 use Rattle.surge_session.proofs.tables.write_tables.Goals as goal
 
-pub overflow_cast-number : goal.overflow_cast-number
-overflow_cast-number g c =
-    let item = c.index-views-i.result in
-    let lt : c.loop-i.i < length c.args.views.now = omega (arith, c.loop-i-test.true) in
-    let at : slice_get c.args.views.now c.loop-i.i ≡ Some item = found c.args.views.now c.args.views.now c.loop-i.i item refl lt c.index-views-i.is in
-    let shown = c.requires.shown c.loop-i.i item at in
-    omega (arith, shown.0, c.views-all.ensures.count, c.views-all.ensures.limit)
+pub returns-then-is_changes-clause-ok : goal.returns-then-is_changes-clause-ok
+returns-then-is_changes-clause-ok g c =
+    let changes : is_changes c.args.form ≡ true = sym c.is_changes.ensures ∙ c.if-is_changes.true in
+    let graph = c.args.graph.now in
+    let tables = map (view_shown g.U.Updater.answer (shown_graph graph c.args.matrix.now) c.args.run.now c.args.collection.now) c.args.views.now in
+    subst (λ (bytes : List ℕ). OnOk c.write_blocks.result (g.O.Sink.written c.write_blocks.new.out ≡ appended (g.O.Sink.written c.args.out.now) bytes)) (texts_of_blocks c.args.form graph tables changes) c.write_blocks.ensures.ok
 
-pub overflow_add-number : goal.overflow_add-number
-overflow_add-number g c =
-    let item = c.index-views-i.result in
-    let lt : c.loop-i.i < length c.args.views.now = omega (arith, c.loop-i-test.true) in
-    let at : slice_get c.args.views.now c.loop-i.i ≡ Some item = found c.args.views.now c.args.views.now c.loop-i.i item refl lt c.index-views-i.is in
-    let shown = c.requires.shown c.loop-i.i item at in
-    omega (arith, shown.0, c.views-all.ensures.count, c.views-all.ensures.limit)
+pub returns-then-is_changes-clause-err : goal.returns-then-is_changes-clause-err
+returns-then-is_changes-clause-err g c =
+    let changes : is_changes c.args.form ≡ true = sym c.is_changes.ensures ∙ c.if-is_changes.true in
+    let graph = c.args.graph.now in
+    let tables = map (view_shown g.U.Updater.answer (shown_graph graph c.args.matrix.now) c.args.run.now c.args.collection.now) c.args.views.now in
+    subst (λ (bytes : List ℕ). OnErr c.write_blocks.result (GrewByFront (g.O.Sink.written c.args.out.now) (g.O.Sink.written c.write_blocks.new.out) bytes)) (texts_of_blocks c.args.form graph tables changes) c.write_blocks.ensures.err
 
-pub write_view-requires-clause-within : goal.write_view-requires-clause-within
-write_view-requires-clause-within g c =
-    let item = c.index-views-i.result in
-    let lt : c.loop-i.i < length c.args.views.now = omega (arith, c.loop-i-test.true) in
-    let at : slice_get c.args.views.now c.loop-i.i ≡ Some item = found c.args.views.now c.args.views.now c.loop-i.i item refl lt c.index-views-i.is in
-    let shown = c.requires.shown c.loop-i.i item at in
-    shown.0
+pub returns-clause-ok : goal.returns-clause-ok
+returns-clause-ok g c =
+    let alone : is_changes c.args.form ≡ false = sym c.is_changes.ensures ∙ c.if-is_changes.false in
+    let text = texts_alone g.U.Updater.answer c.args.form (shown_graph c.args.graph.now c.args.matrix.now) c.args.run.now c.args.collection.now c.args.views.now alone in
+    subst (λ (bytes : List ℕ). OnOk c.write_texts.result (g.O.Sink.written c.write_texts.new.out ≡ appended (g.O.Sink.written c.args.out.now) bytes)) text c.write_texts.ensures.ok
 
-pub write_view-requires-clause-shown : goal.write_view-requires-clause-shown
-write_view-requires-clause-shown g c =
-    let item = c.index-views-i.result in
-    let lt : c.loop-i.i < length c.args.views.now = omega (arith, c.loop-i-test.true) in
-    let at : slice_get c.args.views.now c.loop-i.i ≡ Some item = found c.args.views.now c.args.views.now c.loop-i.i item refl lt c.index-views-i.is in
-    let shown = c.requires.shown c.loop-i.i item at in
-    shown.1
-
-pub returns-in-Err-clause-err : goal.returns-in-Err-clause-err
-returns-in-Err-clause-err g c =
-    let lt : c.loop-i.i < length c.args.views.now = omega (arith, c.loop-i-test.true) in
-    front_of_all (view_text g.U.Updater.answer c.args.form (shown_graph c.args.graph.now c.args.matrix.now) c.args.run.now c.args.collection.now) c.args.views.now c.loop-i.i c.index-views-i.result (g.O.Sink.written c.args.out.now) (g.O.Sink.written c.loop-i.out) (g.O.Sink.written c.write_view.new.out) lt c.index-views-i.is c.loop-i.invariant.written c.in-Err.ensures.err
+pub returns-clause-err : goal.returns-clause-err
+returns-clause-err g c =
+    let alone : is_changes c.args.form ≡ false = sym c.is_changes.ensures ∙ c.if-is_changes.false in
+    let text = texts_alone g.U.Updater.answer c.args.form (shown_graph c.args.graph.now c.args.matrix.now) c.args.run.now c.args.collection.now c.args.views.now alone in
+    subst (λ (bytes : List ℕ). OnErr c.write_texts.result (GrewByFront (g.O.Sink.written c.args.out.now) (g.O.Sink.written c.write_texts.new.out) bytes)) text c.write_texts.ensures.err

@@ -2,7 +2,7 @@ use Rattle.std.proofs.Common.{◌≡◌, ◌≤◌, flat_map, take}
 use Rattle.surge_outside.specs.Written.{appended}
 use Rattle.surge_session.specs.Output.{view_text}
 use Rattle.surge_session.specs.State.{shown_graph}
-use Rattle.surge_session.proofs.tables.write_tables.Given as goal
+use Rattle.surge_session.proofs.tables.write_texts.Given as goal
 
 abbrev pub invariant-loop-i : goal.invariant-loop-i
 invariant-loop-i g l = record {
