@@ -1,6 +1,7 @@
 //! What is kept of a view.
 
-ghost use Rattle.std.specs.Prelude.{◌≡◌, ◌<◌, ◌-◌, [], get_or, IfOk, None};
+ghost use Rattle.std.specs.Prelude.{◌≡◌, ◌<◌, ◌-◌, [], get_or, option_map, IfOk, None};
+ghost use Rattle.std.specs.Rc.{rc_value};
 
 use crate::chained::ChainedLists;
 use graph_model::{NodeNo, Val};
@@ -60,6 +61,25 @@ impl History {
             changes,
             marks,
             starts: None,
+        })
+    }
+
+    /// The same history once more, which shares the memory of its long lists and of the first values. The error is want of memory.
+    pub fn shared(&self, alloc: Global) -> Result<History, NoMemory>
+        ensures changes { IfOk result (λ h. h.changes ≡ self.now.changes) }
+        ensures marks { IfOk result (λ h. h.marks ≡ self.now.marks) }
+        ensures starts { IfOk result (λ h. option_map rc_value h.starts ≡ option_map rc_value self.now.starts) }
+    {
+        let changes = self.changes.shared(alloc)?;
+        let marks = self.marks.shared(alloc)?;
+        let starts = match &self.starts {
+            Some(own) => Some(own.clone()?),
+            None => None,
+        };
+        Ok(History {
+            changes,
+            marks,
+            starts,
         })
     }
 

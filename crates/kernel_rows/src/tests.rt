@@ -2,5 +2,6 @@
 
 mod chained;
 mod plain;
+mod shared;
 mod steps;
 mod views;

@@ -1,6 +1,6 @@
 //! Whether a node gets something else in two rounds, found by what is listed of its arcs: no arc and no view is looked at.
 
-ghost use Rattle.std.specs.Prelude.{◌≡◌, ◌<◌, ◌≤◌, ◌++◌, ◌∷◌, [], ℕ, not, true, List, length, take, filter, All, IfOk, IfSome, OnOk};
+ghost use Rattle.std.specs.Prelude.{◌≡◌, ◌<◌, ◌≤◌, ◌==◌, ◌++◌, ◌∷◌, [], ℕ, not, true, false, List, length, take, filter, get_or, All, IfOk, IfSome, OnOk};
 ghost use Rattle.graph_model.specs.declared.value.Val.{Val};
 ghost use Rattle.vertex_lang.specs.Arcs.{is_sent};
 ghost use Rattle.vertex_lang.specs.Lone.{same_value};
@@ -17,7 +17,6 @@ use crate::compare::{Scratch, are_unlike, push_unlike};
 use crate::movers::Movers;
 use crate::rounds::TwoRounds;
 use crate::source::MessageSource;
-use arc_rows::keep;
 use graph_model::{EdgeNo, NodeNo, Val};
 use message_forms::{Form, Link, form_of, send_by, value_of, with_step};
 use round_messages::kept;
@@ -116,18 +115,59 @@ fn fill_by_tails(
 }
 
 // Puts those of these nodes that may send something else into the first places of a list, whatever it holds, and tells how
-// many they are. Each is put there, and counted only where it may: so no branch rests on what is told.
+// many they are. What tells it is asked once, and no longer at each node.
 fn pick(movers: Movers<'_>, tails: &[NodeNo], picked: &mut Vec<NodeNo>) -> Result<usize, NoMemory>
     requires { All (λ t. InMovers movers t.0) tails.now }
     ensures within { IfOk result (λ count. count ≤ length picked.new.items) }
     ensures picked { IfOk result (λ count. take count picked.new.items ≡ filter (λ t. moves movers.entry t.0) tails.now) }
 {
+    make_room(picked, tails.len())?;
+    match movers {
+        Movers::Views(apart) => Ok(pick_apart(apart, tails, picked)),
+        Movers::Rounds(moved, stamp) => Ok(pick_moved(moved, stamp, tails, picked)),
+    }
+}
+
+// Brings a list to at least so many items.
+fn make_room(picked: &mut Vec<NodeNo>, count: usize) -> Result<(), NoMemory>
+    ensures { OnOk result (count ≤ length picked.new.items) }
+{
+    while picked.len() < count {
+        picked.push(NodeNo(0))?;
+    }
+    Ok(())
+}
+
+// Picks the nodes with a flag. Each is put there, and counted only where it has one: so no branch rests on what is told.
+fn pick_apart(apart: &[bool], tails: &[NodeNo], picked: &mut [NodeNo]) -> usize
+    requires tails { All (λ t. t.0 < length apart.now) tails.now }
+    requires room { length tails.now ≤ length picked.old }
+    ensures size { length picked.new ≡ length picked.old }
+    ensures within { result ≤ length picked.new }
+    ensures picked { take result picked.new ≡ filter (λ t. get_or apart.now t.0 false) tails.now }
+{
     let mut count = 0;
     for tail in tails {
-        keep(picked, count, *tail)?;
-        count += usize::from(movers.moves(*tail));
+        picked[count] = *tail;
+        count += usize::from(apart[tail.0 as usize]);
     }
-    Ok(count)
+    count
+}
+
+// Picks the nodes with this stamp, in the same way.
+fn pick_moved(moved: &[u8], stamp: u8, tails: &[NodeNo], picked: &mut [NodeNo]) -> usize
+    requires tails { All (λ t. t.0 < length moved.now) tails.now }
+    requires room { length tails.now ≤ length picked.old }
+    ensures size { length picked.new ≡ length picked.old }
+    ensures within { result ≤ length picked.new }
+    ensures picked { take result picked.new ≡ filter (λ t. get_or moved.now t.0 0 == stamp) tails.now }
+{
+    let mut count = 0;
+    for tail in tails {
+        picked[count] = *tail;
+        count += usize::from(moved[tail.0 as usize] == stamp);
+    }
+    count
 }
 
 // Adds to two lists what a node sends in two rounds, but to neither what it sends in both, given the form of the message.

@@ -17,5 +17,7 @@ pub mod Beginning
 pub mod Sorting
 pub mod Ending
 pub mod Parting
+pub mod Sharing
 pub mod Marking
 pub mod Visiting
+pub mod Repeating

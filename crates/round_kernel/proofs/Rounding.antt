@@ -24,7 +24,7 @@ use Rattle.message_forms.specs.Forms.{MayKeep}
 use Rattle.change_lists.specs.ChangeLists.{HasNodes, HasChanges, is_changed, is_listed}
 use Rattle.round_kernel.specs.Flags.{IsParted, AreSet}
 use Rattle.round_kernel.specs.Rounds.{old_view, TellParted}
-use Rattle.round_kernel.specs.Frames.{AreStirred, IsQuiet, stirs, StandAt, AreDivided, HasSome, ArePartedAnew, IsCaughtUp, count_in, lone_at, old_lone_at, new_arcs, old_arcs, touched_at, marked_at, marked_before, was_touched_at, changes_at}
+use Rattle.round_kernel.specs.Frames.{AreStirred, IsQuiet, stirs, StandAt, HasSome, ArePartedAnew, IsCaughtUp, count_in, lone_at, old_lone_at, new_arcs, old_arcs, touched_at, marked_at, marked_before, was_touched_at, changes_at}
 use Rattle.arc_rows.specs.ViewLaws.{same-or-turned}
 use Rattle.arc_rows.specs.ListLaws.{clash}
 use Rattle.waiting_nodes.specs.WaitingLaws.{or-right}
@@ -44,7 +44,7 @@ module _ {X : Type 0} (key : X → ℕ) (t : List Bool) (v : ℕ) where
   any-if true x rest = refl
   any-if false x rest = refl
 
-  any-untouched : (xs : List X) → list_any (λ y. key y == v) (filter (λ y. not (get_or t (key y) false)) xs) ≡ (not (get_or t v false) && list_any (λ y. key y == v) xs)
+  pub any-untouched : (xs : List X) → list_any (λ y. key y == v) (filter (λ y. not (get_or t (key y) false)) xs) ≡ (not (get_or t v false) && list_any (λ y. key y == v) xs)
   any-untouched [] = none (not (get_or t v false)) where
     none : (b : Bool) → false ≡ (b && false)
     none true = refl
@@ -54,7 +54,7 @@ module _ {X : Type 0} (key : X → ℕ) (t : List Bool) (v : ℕ) where
       ∙ ap (λ (b : Bool). (not (get_or t (key x) false) && (key x == v)) || b) (any-untouched xs)
       ∙ both-or (not (get_or t (key x) false)) (key x == v) (not (get_or t v false)) (list_any (λ y. key y == v) xs) (λ e. ap (λ n. not (get_or t n false)) (eqb-true (key x) v e))
 
-any-kept : {X : Type 0} (key : X → ℕ) (test : ℕ → Bool) (v : ℕ) (xs : List X) → list_any (λ y. key y == v) (filter (λ y. test (key y)) xs) ≡ (test v && list_any (λ y. key y == v) xs)
+pub any-kept : {X : Type 0} (key : X → ℕ) (test : ℕ → Bool) (v : ℕ) (xs : List X) → list_any (λ y. key y == v) (filter (λ y. test (key y)) xs) ≡ (test v && list_any (λ y. key y == v) xs)
 any-kept key test v [] = none (test v) where
   none : (b : Bool) → false ≡ (b && false)
   none true = refl
@@ -71,15 +71,6 @@ neither-first false c e = refl
 neither-second : (b c : Bool) → (b || c) ≡ false → c ≡ false
 neither-second true c e = absurd (clash true e refl)
 neither-second false c e = e
-
--- the same with what was copied already
-mixed-more : (t m b c s : Bool) → (t ≡ false → m ≡ b) → b ≡ (c || s) → (c ≡ true → t ≡ false) → ((c || (t && m)) || (not t && s)) ≡ m
-mixed-more true true b true s h e stay = refl
-mixed-more true false b true s h e stay = absurd (clash true (stay refl) refl)
-mixed-more true true b false s h e stay = refl
-mixed-more true false b false s h e stay = refl
-mixed-more false m b true s h e stay = sym (h refl ∙ e)
-mixed-more false m b false s h e stay = sym (h refl ∙ e)
 
 -- what is listed behind others, where that is asked for
 pub listed-when : {X : Type 0} (b : Bool) → b ≡ true → (test : X → Bool) (made start found xs : List X) → made ≡ start ++ filter (λ x. b && test x) xs → start ≡ found → made ≡ found ++ filter test xs
@@ -103,16 +94,15 @@ module _ (answer : Answer) (p : Program) (graph : GraphData) (new : List Arc) (v
   untouched-two (Some old) low e = (untouched-value answer p graph new old v r (r + 1) low e (omega arith), untouched-value answer p graph new old v r r low e (omega arith))
 
 module _ (answer : Answer) (f : Frame) (r : ℕ) (t : List Bool) (suspects : (v : ℕ) → v < count_in f → get_or t v false ≡ touched_at answer f r v) where
-  pub marks-all : (flags : List Bool) (copied found old : List NodeNo) → 0 < r → AreDivided answer f r flags old copied → HasNodes (count_in f) (λ v. is_listed v copied || (touched_at answer f r v && marked_at answer f r v)) found
+  pub marks-all : (found old : List NodeNo) → HasNodes (count_in f) (λ v. touched_at answer f r v && marked_at answer f r v) found → HasNodes (count_in f) (marked_before answer f r) old
       → HasNodes (count_in f) (marked_at answer f r) (found ++ filter (λ n. not (get_or t n.0 false)) old)
-  marks-all flags copied found old later b a = record {
-    within = All-append (λ (n : NodeNo). n.0 < count_in f) found (filter (λ n. not (get_or t n.0 false)) old) a.within (All-filter (λ (n : NodeNo). not (get_or t n.0 false)) (λ (n : NodeNo). n.0 < count_in f) old b.shown_within);
+  marks-all found old a b = record {
+    within = All-append (λ (n : NodeNo). n.0 < count_in f) found (filter (λ n. not (get_or t n.0 false)) old) a.within (All-filter (λ (n : NodeNo). not (get_or t n.0 false)) (λ (n : NodeNo). n.0 < count_in f) old b.within);
     listed = λ v low.
         list_any-append (λ (n : NodeNo). n.0 == v) found (filter (λ n. not (get_or t n.0 false)) old)
         ∙ ap (λ (c : Bool). c || is_listed v (filter (λ n. not (get_or t n.0 false)) old)) (a.listed v low)
-        ∙ ap (λ (c : Bool). (is_listed v copied || (touched_at answer f r v && marked_at answer f r v)) || c) (any-untouched (λ (n : NodeNo). n.0) t v old ∙ ap (λ (c : Bool). not c && is_listed v old) (suspects v low))
-        ∙ mixed-more (touched_at answer f r v) (marked_at answer f r v) (marked_before answer f r v) (is_listed v copied) (is_listed v old)
-        (λ e. untouched-mark answer f.program.now f.graph.now (new_arcs f) (old_arcs f) v r e) (b.listed v low later) (b.stay v low);
+        ∙ ap (λ (c : Bool). (touched_at answer f r v && marked_at answer f r v) || c) (any-untouched (λ (n : NodeNo). n.0) t v old ∙ ap (λ (c : Bool). not c && is_listed v old) (suspects v low) ∙ ap (λ (c : Bool). not (touched_at answer f r v) && c) (b.listed v low))
+        ∙ mixed (touched_at answer f r v) (marked_at answer f r v) (marked_before answer f r v) (λ e. untouched-mark answer f.program.now f.graph.now (new_arcs f) (old_arcs f) v r e);
   }
 
   pub changes-all : (found old : List Change) → HasSome answer f r (touched_at answer f r) found

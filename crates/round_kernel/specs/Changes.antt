@@ -1,5 +1,8 @@
 -- What a round gives, and what goes from round to round.
-use Rattle.std.specs.Prelude.{◌≡◌, ◌<◌, ◌+◌, ◌-◌, ℕ, true, length}
+use Rattle.std.specs.Prelude.{◌≡◌, ◌<◌, ◌+◌, ◌-◌, ℕ, true, length, List, Option, Some, None, option_map}
+use Rattle.std.specs.Rc.{rc_value}
+use Rattle.graph_model.specs.declared.number.NodeNo.{NodeNo}
+use Rattle.change_lists.specs.declared.history.Change.{Change}
 use Rattle.vertex_lang.specs.Expressions.{Answer}
 use Rattle.change_lists.specs.ChangeLists.{HasNodes, HasChanges}
 use Rattle.round_kernel.specs.declared.frame.Frame.{Frame}
@@ -16,10 +19,22 @@ pub record IsStage (answer : Answer) (stage : Stage) : Type 0 where
   pub round : stage.round < stage.frame.limit
   pub lookups : StandLookups answer stage.frame stage.round stage.lookups.now
 
+-- a list that is shared, where there is one, and else the own one
+abbrev pub shared_or : {X : Type 0} → Option (List X) → List X → List X
+shared_or None own = own
+shared_or (Some same) own = same
+
+-- the nodes with a mark, and what changes to the next round
+abbrev pub made_marks : Made → List NodeNo
+made_marks made = shared_or (option_map rc_value made.same_marks) made.marks
+
+abbrev pub made_changes : Made → List Change
+made_changes made = shared_or (option_map rc_value made.same_changes) made.changes
+
 -- what a round gives: the nodes with a mark in it, what changes to the next one, and where few touched nodes do, what may have to be told
 pub record HasMade (answer : Answer) (f : Frame) (r : ℕ) (made : Made) : Type 0 where
-  pub marks : 0 < r → HasNodes (count_in f) (marked_at answer f r) made.marks
-  pub changes : HasChanges (count_in f) (lone_at answer f r) (lone_at answer f (r + 1)) made.changes
+  pub marks : 0 < r → HasNodes (count_in f) (marked_at answer f r) (made_marks made)
+  pub changes : HasChanges (count_in f) (lone_at answer f r) (lone_at answer f (r + 1)) (made_changes made)
   pub stirred : made.few ≡ true → AreStirred answer f r made.stirred
 
 -- what goes from round to round, as it stands before a round

@@ -113,14 +113,12 @@ pub record AreCalm (answer : Answer) (f : Frame) (r : ℕ) (lists : Lists) : Typ
 pub record AreShown (answer : Answer) (f : Frame) (r : ℕ) (lists : Lists) : Type 0 where
   pub shown : (v : ℕ) → v < count_in f → 0 < r → waits lists.queue v ≡ true → get_or lists.marked.items v false ≡ marked_before answer f r v
 
--- the nodes with a mark in the view before are in two lists: those that are copied stay untouched, and all that are flagged are among
--- those that are shown
-pub record AreDivided (answer : Answer) (f : Frame) (r : ℕ) (marked : List Bool) (shown copied : List NodeNo) : Type 0 where
-  pub copied_within : All (λ n. n.0 < count_in f) copied
-  pub shown_within : All (λ n. n.0 < count_in f) shown
-  pub listed : (v : ℕ) → v < count_in f → 0 < r → marked_before answer f r v ≡ (is_listed v copied || is_listed v shown)
-  pub stay : (v : ℕ) → v < count_in f → is_listed v copied ≡ true → touched_at answer f r v ≡ false
-  pub flagged : (v : ℕ) → get_or marked v false ≡ true → is_listed v shown ≡ true
+-- of the nodes with a mark in the view before some are shown, and flagged; the others stay untouched
+pub record AreDivided (answer : Answer) (f : Frame) (r : ℕ) (marked : List Bool) (shown : List NodeNo) : Type 0 where
+  pub within : All (λ n. n.0 < count_in f) shown
+  pub among : (v : ℕ) → v < count_in f → 0 < r → is_listed v shown ≡ true → marked_before answer f r v ≡ true
+  pub stay : (v : ℕ) → v < count_in f → 0 < r → marked_before answer f r v ≡ true → is_listed v shown ≡ false → touched_at answer f r v ≡ false
+  pub flagged : (v : ℕ) → get_or marked v false ≡ is_listed v shown
 
 -- ---- a visit
 

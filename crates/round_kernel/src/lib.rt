@@ -19,6 +19,7 @@ mod lookups;
 mod made;
 mod plan;
 mod round;
+mod same;
 mod sorted;
 mod source;
 mod spare;

@@ -95,7 +95,7 @@ impl Lookups {
         requires lookups { StandLookups U.answer frame round self.old }
         ensures lookups { StandLookups U.answer frame.entry (round + 1) self.new }
     {
-        let new = made.changes.as_slice();
+        let new = made.changed();
         next_source(&mut self.source, frame, round, lists, new, updater);
         self.suspects.go_on(frame, round, lists, made, updater);
     }

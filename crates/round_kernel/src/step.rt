@@ -1,13 +1,14 @@
 //! The step from a view to the next.
 
-ghost use Rattle.std.specs.Prelude.{◌≡◌, ◌≢◌, ◌<◌, ◌≤◌, ◌+◌, ◌-◌, ◌++◌, ◌∷◌, [], ℕ, true, false, length, get_or, IfOk, OnOk, IsTrue, IsFalse};
+ghost use Rattle.std.specs.Prelude.{◌≡◌, ◌≢◌, ◌<◌, ◌≤◌, ◌+◌, ◌-◌, ◌++◌, ◌∷◌, [], ℕ, true, false, length, get_or, option_map, IfOk, OnOk, IsTrue, IsFalse};
+ghost use Rattle.std.specs.Rc.{rc_value};
 ghost use Rattle.vertex_lang.specs.Lone.{number_of};
 ghost use Rattle.lone_work.specs.Work.{work};
 ghost use Rattle.arc_rows.specs.Counts.{AreBoth};
 ghost use Rattle.arc_rows.specs.Listings.{IsListed};
 ghost use Rattle.arc_rows.specs.RowLists.{AreAlong};
 ghost use Rattle.arc_rows.specs.Views.{arcs_in};
-ghost use Rattle.round_kernel.specs.Changes.{StandsBefore};
+ghost use Rattle.round_kernel.specs.Changes.{made_changes, made_marks, shared_or, StandsBefore};
 ghost use Rattle.round_kernel.specs.Frames.{IsFrame, new_arcs, old_arcs, count_in};
 ghost use Rattle.round_kernel.specs.Kernels.{IsKernel};
 ghost use Rattle.round_kernel.specs.Plans.{IsBehind, IsFirst, IsNext, MayRun};
@@ -28,9 +29,13 @@ use change_lists::{ChainedLists, Change, History, all_changes, changes_between};
 use graph_model::Graph;
 use std::alloc::Global;
 use std::mem;
+use std::rc::Rc;
 use surge_outside::{List, NoMemory};
 use value_codes::Kept;
 use vertex_lang::{Outcome, Rounds, Updater, arcs_of, names_outdeg};
+
+// How many items a short list has at most.
+const MOST_SHORT: usize = 1_000;
 
 /// What a step gives.
 #[derive(Debug, Drop)]
@@ -71,7 +76,8 @@ impl Kernel {
     }
 
     /// Steps a view behind another one, where so many edges are in one of the two or in both. Where they are less than half of those of
-    /// the graph, it goes over their arcs alone. The error is want of memory.
+    /// the graph, it goes over their arcs alone. Where no edge is turned, nothing is evaluated, and the history is shared with the view
+    /// before. The error is want of memory.
     pub fn next_step<U: Updater>(
         &mut self,
         alloc: Global,
@@ -88,6 +94,9 @@ impl Kernel {
         ensures step { IfOk result (IsNext U.answer plan.entry (arcs_in self.old.rows.by_head behind.entry.old.now) (arcs_in self.old.rows.by_head behind.entry.new.now)) }
         ensures calls { IfOk result (λ s. U.calls updater.new ≡ U.calls updater.old + s.work) }
     {
+        if behind.turned.is_empty() {
+            return repeated(alloc, plan, self, behind, updater);
+        }
         if are_few(plan.graph, count) {
             let mut chosen = self.within(alloc, plan.graph, behind.old, behind.new)?;
             return next_step(alloc, plan, &mut chosen, behind, updater);
@@ -222,6 +231,32 @@ fn next_step<U: Updater>(
     })
 }
 
+// Steps a view behind one with the same edges: nothing is evaluated, and its run is that of the view before. The history that is
+// given may say more than the rounds that are allowed, or end in rounds without a change; what is answered does neither.
+fn repeated<U: Updater>(
+    alloc: Global,
+    plan: Plan<'_>,
+    kernel: &Kernel,
+    behind: Behind<'_>,
+    updater: &U,
+) -> Result<Stepped, NoMemory>
+    requires plan { MayRun plan kernel.now }
+    requires behind { IsBehind U.answer plan kernel.now behind }
+    requires none { behind.turned.now ≡ [] }
+    ensures step { IfOk result (IsNext U.answer plan.entry (arcs_in kernel.now.rows.by_head behind.entry.old.now) (arcs_in kernel.now.rows.by_head behind.entry.new.now)) }
+    ensures work { IfOk result (λ s. s.work ≡ 0) }
+{
+    let mut history = behind.history.shared(alloc)?;
+    history.changes.truncate(limit_of(plan.rounds) as usize);
+    trim(&mut history.changes);
+    Ok(Stepped {
+        outcome: outcome(&history, plan.rounds),
+        history,
+        change: List::new(alloc),
+        work: 0,
+    })
+}
+
 // What all rounds give.
 #[derive(Drop)]
 struct Run {
@@ -322,7 +357,7 @@ fn run_one<U: Updater>(
     go_on(alloc, frame, round, before, made, lists, updater);
     lookups.go_on(frame, round, lists, made, updater);
     let suspects = &lookups.suspects;
-    in_node_order(frame, round, lists, suspects, &mut made.changes, updater)?;
+    in_node_order(frame, round, lists, suspects, made, updater)?;
     add_round(alloc, history, round, made, frame.graph.node_count())?;
     Ok(work)
 }
@@ -335,39 +370,44 @@ fn add_round(
     made: &mut Made,
     count: u32,
 ) -> Result<(), NoMemory>
-    ensures changes { OnOk result (history.new.changes ≡ history.old.changes ++ made.old.changes ∷ []) }
+    ensures changes { OnOk result (history.new.changes ≡ history.old.changes ++ made_changes made.old ∷ []) }
     ensures first { OnOk result (round ≡ 0 → history.new.marks ≡ history.old.marks) }
-    ensures later { OnOk result (0 < round → history.new.marks ≡ history.old.marks ++ made.old.marks ∷ []) }
+    ensures later { OnOk result (0 < round → history.new.marks ≡ history.old.marks ++ made_marks made.old ∷ []) }
     ensures few { made.new.few ≡ made.old.few }
     ensures stirred { made.new.stirred ≡ made.old.stirred }
 {
-    add_list(alloc, &mut history.changes, &mut made.changes, count)?;
+    let same = made.same_changes.take();
+    add_list(alloc, &mut history.changes, same, &mut made.changes, count)?;
     if round == 0 {
         return Ok(());
     }
-    add_list(alloc, &mut history.marks, &mut made.marks, count)
+    let same = made.same_marks.take();
+    add_list(alloc, &mut history.marks, same, &mut made.marks, count)
 }
 
-// Adds a list of a round. A long one, which uses more than half of the room that it was given, is moved in, and another one with
-// as much room is put in its place. A short one is copied, so that it takes no memory of its own.
+// Adds a list of a round. One that is shared with the view before takes no memory. A long one, which uses more than half of the room
+// that it was given, is moved in, and another one with as much room is put in its place. Another one is copied: where it isn't short,
+// into memory of its own, so that the view behind may share it, and else to the other short ones.
 fn add_list<T: Copy + Drop>(
     alloc: Global,
     lists: &mut ChainedLists<T>,
+    same: Option<Rc<List<T>>>,
     list: &mut List<T>,
     count: u32,
 ) -> Result<(), NoMemory>
-    ensures { OnOk result (lists.new ≡ lists.old ++ list.old ∷ []) }
+    ensures { OnOk result (lists.new ≡ lists.old ++ shared_or (option_map rc_value same) list.old ∷ []) }
 {
-    if list.len() <= most_copied(count) {
+    if let Some(same) = same {
+        return lists.push_shared(same);
+    }
+    if list.len() <= MOST_SHORT {
         return lists.push(list.as_slice());
+    }
+    if list.len() <= count as usize / 2 {
+        return lists.push_copied(list.as_slice());
     }
     let none = List::from_vec(Vec::with_capacity(alloc, count as usize)?);
     lists.push_owned(mem::replace(list, none))
-}
-
-// How many changes a short list has at most, given the number of nodes: half as many, or a thousand where that is more.
-fn most_copied(count: u32) -> usize {
-    (count as usize / 2).max(1_000)
 }
 
 // Takes away rounds at the end in which nothing changes.

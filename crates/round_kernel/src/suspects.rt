@@ -79,7 +79,7 @@ impl Suspects {
         requires suspects { StandSuspects U.answer frame round self.old }
         ensures { StandSuspects U.answer frame.entry (round + 1) self.new }
     {
-        self.move_all(frame, round + 1, made.changes.as_slice());
+        self.move_all(frame, round + 1, made.changed());
         if frame.first {
             return;
         }

@@ -1,3 +1,4 @@
 pub mod Numbered
 pub mod Spanning
+pub mod ShortSpanning
 pub mod Messages

@@ -68,20 +68,23 @@ span-more span more ms z fits other least_is greatest_is total_is count_is h =
     } in
     subst (λ (m : Val). IsSpan more (with_message ms m)) (sym (number-is z other)) with_one
 
+-- the same numbers come of the same messages
+pub span-same : (span same : Span) (ms : List Val) → same.least ≡ span.least → same.greatest ≡ span.greatest → same.total ≡ span.total → same.count ≡ span.count → IsSpan span ms → IsSpan same ms
+span-same span same ms least_is greatest_is total_is count_is h = record {
+  low = h.low ∙ ap (λ (n : ℕ). if n == 0 then Nil else Num span.least) (sym count_is) ∙ ap (λ (x : ℤ). if same.count == 0 then Nil else Num x) (sym least_is);
+  high = h.high ∙ ap value_in (sym greatest_is);
+  sum = total_is ∙ h.sum;
+  size = count_is ∙ h.size;
+  start = λ empty. least_is ∙ h.start (sym count_is ∙ empty);
+}
+
 -- none isn't sent
 pub span-still : (span more : Span) (ms : List Val) (z : ℤ) → z ≡ lowest_number
     → more.least ≡ span.least → more.greatest ≡ span.greatest → more.total ≡ span.total → more.count ≡ span.count
     → IsSpan span ms → IsSpan more (with_message ms (value_in z))
 span-still span more ms z none least_is greatest_is total_is count_is h =
-    let as_it_was : IsSpan more ms = record {
-      low = h.low ∙ ap (λ (n : ℕ). if n == 0 then Nil else Num span.least) (sym count_is) ∙ ap (λ (x : ℤ). if more.count == 0 then Nil else Num x) (sym least_is);
-      high = h.high ∙ ap value_in (sym greatest_is);
-      sum = total_is ∙ h.sum;
-      size = count_is ∙ h.size;
-      start = λ empty. least_is ∙ h.start (sym count_is ∙ empty);
-    } in
     let same : with_message ms Nil ≡ ms = append-nil ms in
-    subst (λ (m : Val). IsSpan more (with_message ms m)) (sym (none-is z none)) (subst (λ (xs : List Val). IsSpan more xs) (sym same) as_it_was)
+    subst (λ (m : Val). IsSpan more (with_message ms m)) (sym (none-is z none)) (subst (λ (xs : List Val). IsSpan more xs) (sym same) (span-same span more ms least_is greatest_is total_is count_is h))
 
 -- the least and the greatest of numbers in range
 pub least-stays : (x : ℤ) → SFits w64 x → int_min x greatest ≡ x

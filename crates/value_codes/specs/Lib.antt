@@ -1,4 +1,5 @@
 pub mod ShortCodes
+pub mod ShortSpans
 pub mod Spans
 pub mod Tallies
 pub mod Numbers

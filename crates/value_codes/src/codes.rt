@@ -9,6 +9,7 @@ ghost use Rattle.value_codes.specs.ShortCodes.{widened};
 ghost use Rattle.value_codes.specs.Spans.{IsSpan};
 ghost use Rattle.value_codes.specs.Tallies.{tally_of};
 
+use crate::short_span::ShortSpan;
 use crate::span::Span;
 use crate::tally::Tally;
 use change_lists::Change;
@@ -45,7 +46,7 @@ impl Model for Codes {
 }
 
 /// The number of four bytes that stands for none.
-const SHORT_NONE: i32 = i32::MIN;
+pub(crate) const SHORT_NONE: i32 = i32::MIN;
 
 impl Codes {
     /// These, of four bytes each.
@@ -237,7 +238,7 @@ fn short_of(number: i64) -> Option<i32>
 }
 
 // And back.
-fn widen(short: i32) -> i64
+pub(crate) fn widen(short: i32) -> i64
     ensures { result ≡ widened short }
 {
     if short == SHORT_NONE {
@@ -277,11 +278,11 @@ fn span_of_short(numbers: &[i32], tails: &[NodeNo]) -> Span
     requires tails { All (λ t. t.0 < length numbers.now) tails.now }
     ensures { IsSpan result (sent_from (map widened numbers.now) tails.now) }
 {
-    let mut span = Span::new();
+    let mut span = ShortSpan::new();
     for tail in tails {
-        span = span.with(widen(numbers[tail.0 as usize]));
+        span = span.with(numbers[tail.0 as usize]);
     }
-    span
+    span.span(tails.len())
 }
 
 // What comes of arcs that bring the numbers of their tails, held in eight bytes each.

@@ -9,6 +9,7 @@
 
 mod codes;
 mod numbers;
+mod short_span;
 mod span;
 mod tally;
 

@@ -1,19 +1,21 @@
 //! Values as numbers of eight bytes, so that those of many nodes stay near.
 
-ghost use Rattle.std.specs.Prelude.{◌≡◌, ◌<◌, ◌^◌, true, length, All, IfOk, IfSome, IsTrue};
+ghost use Rattle.std.specs.Prelude.{◌≡◌, ◌<◌, ◌^◌, true, List, length, All, IfOk, IfSome, IsTrue};
+ghost use Rattle.graph_model.specs.declared.value.Val.{Val};
+ghost use Rattle.message_forms.specs.Codes.{value_in};
 ghost use Rattle.vertex_lang.specs.Values.{added};
 ghost use Rattle.value_codes.specs.Numbers.{AreNumbers, AreRenewed, sent_over};
-ghost use Rattle.value_codes.specs.Spans.{IsSpan};
-ghost use Rattle.value_codes.specs.Tallies.{tally_of};
+ghost use Rattle.value_codes.specs.Spans.{IsSpan, sums_of, with_message};
+ghost use Rattle.value_codes.specs.Tallies.{IsBounded, tally_of};
 
 use crate::span::Span;
 use crate::tally::Tally;
 use change_lists::Change;
 use graph_model::Val;
-use message_forms::{Link, number_of, sum_of};
+use message_forms::{Link, NONE, number_of};
 use std::alloc::Global;
 use surge_outside::NoMemory;
-use vertex_lang::Gather;
+use vertex_lang::{Gather, arithmetic};
 
 /// All values as numbers, or nothing where one has none. The error is want of memory.
 pub fn numbers_of(alloc: Global, values: &[Val]) -> Result<Option<Vec<i64>>, NoMemory>
@@ -66,7 +68,23 @@ fn span_of_links(numbers: &[i64], links: &[Link]) -> Span
 {
     let mut span = Span::new();
     for link in links {
-        span = span.with(sum_of(numbers[link.tail.0 as usize], link.step));
+        span = with_link(span, numbers[link.tail.0 as usize], link.step);
     }
     span
+}
+
+// With the sum of these two numbers, unless one stands for none: most often neither does, and then the sum doesn't either.
+fn with_link(span: Span, number: i64, step: i64) -> Span
+    requires room { span.count < 2 ^ 32 }
+    requires bounded { IsBounded (sums_of span) }
+    ensures span { (ms : List Val) → IsSpan span ms → IsSpan result (with_message ms (added true (value_in number) (value_in step))) }
+    ensures bounded { IsBounded (sums_of result) }
+{
+    if number == NONE {
+        return span;
+    }
+    if step == NONE {
+        return span;
+    }
+    span.with_number(arithmetic::sum_of(number, step))
 }

@@ -1,6 +1,6 @@
 //! What messages come to that are kept as numbers of eight bytes.
 
-ghost use Rattle.std.specs.Prelude.{◌≡◌, ◌<◌, ◌^◌, ◌==◌, if◌then◌else◌, [], List, pos, fold};
+ghost use Rattle.std.specs.Prelude.{◌≡◌, ◌≢◌, ◌<◌, ◌^◌, ◌==◌, if◌then◌else◌, [], List, pos, fold};
 ghost use Rattle.std.specs.Ordering.{int_eq};
 ghost use Rattle.graph_model.specs.declared.value.Val.TheVariants.{Nil, Num};
 ghost use Rattle.message_forms.specs.Codes.{value_in};
@@ -54,6 +54,22 @@ impl Span {
             greatest: self.greatest.max(number),
             total: self.total + i128::from(term_of(number)),
             count: self.count + sent_in(number),
+        }
+    }
+
+    /// With one message more, which is this number and not the one that stands for none.
+    pub fn with_number(self, number: i64) -> Span
+        requires some { number ≢ lowest_number }
+        requires room { self.count < 2 ^ 32 }
+        requires bounded { IsBounded (sums_of self) }
+        ensures span { (ms : List Val) → IsSpan self ms → IsSpan result (with_message ms (value_in number)) }
+        ensures bounded { IsBounded (sums_of result) }
+    {
+        Span {
+            least: self.least.min(number),
+            greatest: self.greatest.max(number),
+            total: self.total + i128::from(number),
+            count: self.count + 1,
         }
     }
 

@@ -72,3 +72,46 @@ fn long_lists_stand_among_short_ones(rt: HostRuntime) -> Result<(), Fail> {
     assert_eq!(rt; listed(rt.alloc(), &chained)?.as_str(), "3 ;5 6 ;7 ;;");
     Ok(())
 }
+
+#[test]
+fn shared_lists_stay_where_others_are_cut(rt: HostRuntime) -> Result<(), Fail> {
+    let lists: [(bool, &[NodeNo]); 2] = [(true, &[NodeNo(5), NodeNo(6)]), (false, &[NodeNo(3)])];
+    let mut chained = ChainedLists::new(rt.alloc());
+    push_all(rt.alloc(), &mut chained, &lists)?;
+    let shared = chained.shared(rt.alloc())?;
+    chained.truncate(0);
+    push_all(rt.alloc(), &mut chained, &[(true, &[NodeNo(7)])])?;
+    assert_eq!(rt; listed(rt.alloc(), &shared)?.as_str(), "5 6 ;3 ;;");
+    assert_eq!(rt; listed(rt.alloc(), &chained)?.as_str(), "7 ;;");
+    Ok(())
+}
+
+// Adds those of the lists that are long ones, with the memory that they have.
+fn push_shared(
+    chained: &mut ChainedLists<NodeNo>,
+    lists: &ChainedLists<NodeNo>,
+) -> Result<(), NoMemory> {
+    for place in 0..lists.len().saturating_add(1) {
+        if let Some(list) = lists.shared_at(place)? {
+            chained.push_shared(list)?;
+        }
+    }
+    Ok(())
+}
+
+#[test]
+fn a_single_list_is_shared(rt: HostRuntime) -> Result<(), Fail> {
+    let mut chained = ChainedLists::new(rt.alloc());
+    chained.push(&[NodeNo(3)])?;
+    chained.push_copied(&[NodeNo(5), NodeNo(6)])?;
+    let mut other = ChainedLists::new(rt.alloc());
+    push_shared(&mut other, &chained)?;
+    other.push(&[NodeNo(4)])?;
+    assert_eq!(rt; listed(rt.alloc(), &other)?.as_str(), "5 6 ;4 ;;");
+    other.truncate(0);
+    assert_eq!(rt; listed(rt.alloc(), &chained)?.as_str(), "3 ;5 6 ;;");
+    push_shared(&mut other, &chained)?;
+    drop(chained);
+    assert_eq!(rt; listed(rt.alloc(), &other)?.as_str(), "5 6 ;;");
+    Ok(())
+}

@@ -205,6 +205,19 @@ fn edges_come_and_go(rt: HostRuntime) -> Result<(), Fail> {
 }
 
 #[test]
+fn the_same_edges_cost_nothing(rt: HostRuntime) -> Result<(), Fail> {
+    let graph = graph_in(rt.alloc(), FOUR, WAYS)?;
+    let edges = [true, true, true, false];
+    let rounds = Rounds::Within(3);
+    let text = counted::<Brand>(rt.alloc(), &graph, &edges, &edges, rounds, Blank::new(1))?;
+    assert_eq!(rt;
+        text.as_str(),
+        "Settled(1) work 6: 0:0 1:1 2:1 3:-\nSettled(1) work 0:\n"
+    );
+    Ok(())
+}
+
+#[test]
 fn another_updater(rt: HostRuntime) -> Result<(), Fail> {
     let graph = graph_in(rt.alloc(), TWO, EDGE)?;
     let rounds = Rounds::Within(4);

@@ -29,7 +29,7 @@ assign-requires g c = λ k d low.
 
 pub apply-lists-requires-clause-within : goal.apply-lists-requires-clause-within
 apply-lists-requires-clause-within g c = λ k d low.
-    omega (arith, (subst (λ (cs : List Change). HasChanges (count_in c.args.frame) (lone_at g.U.Updater.answer c.args.frame c.args.round) (lone_at g.U.Updater.answer c.args.frame (c.args.round + 1)) cs) (sym c.as_slice.ensures) c.requires.made.changes).within k d low, ap (λ (vs : List Val). length vs) c.deref_mut-2.ensures.value, ap (λ (l : Lists). length l.new_now.items) (kept-both c.args.lists.now c.part_stirred.new.lists c.catch_up_new.new.lists c.part_stirred.ensures.kept c.catch_up_new.ensures.kept), c.requires.at.new_now.sized.values_size)
+    omega (arith, (subst (λ (cs : List Change). HasChanges (count_in c.args.frame) (lone_at g.U.Updater.answer c.args.frame c.args.round) (lone_at g.U.Updater.answer c.args.frame (c.args.round + 1)) cs) (sym c.changed.ensures) c.requires.made.changes).within k d low, ap (λ (vs : List Val). length vs) c.deref_mut-2.ensures.value, ap (λ (l : Lists). length l.new_now.items) (kept-both c.args.lists.now c.part_stirred.new.lists c.catch_up_new.new.lists c.part_stirred.ensures.kept c.catch_up_new.ensures.kept), c.requires.at.new_now.sized.values_size)
 
 pub apply-lists-requires-clause-size : goal.apply-lists-requires-clause-size
 apply-lists-requires-clause-size g c = omega (arith, ap (λ (vs : List Val). length vs) c.deref_mut-2.ensures.value, ap (λ (l : Lists). length l.new_now.items) (kept-both c.args.lists.now c.part_stirred.new.lists c.catch_up_new.new.lists c.part_stirred.ensures.kept c.catch_up_new.ensures.kept), c.requires.at.new_now.sized.values_size)
@@ -82,7 +82,7 @@ returns-clause-at g c =
     let degrees : lists1.new_degrees.items ≡ lists0.new_degrees.items = ap (λ (l : Lists). l.new_degrees.items) kept in
     subst (λ (l : Lists). StandAt answer f (r + 1) (was_touched_at answer f (r + 1)) (record l { old_now = on; new_now = nn; alike = c.apply-lists.result; new_sent = ns })) (sym kept)
     (at-next answer f r lists0 c.part_stirred.new.lists.parted lists1.new_before on nn c.apply-lists.result ns c.requires.at
-    (is_new ∙ c.apply-lists.ensures.values (lone_at answer f (r + 1)) (more_new ∙ sym size_new) (moved (length c.deref_mut-2.result.now) (count_in f) c.deref_mut-2.result.now (lone_at answer f r) (lone_at answer f (r + 1)) (lone_at answer f (r + 1)) c.as_slice.result.now c.as_slice.result.now size_new (was_new ∙ c.requires.at.new_now.values_are) refl refl (subst (λ (cs : List Change). HasChanges (count_in f) (lone_at answer f r) (lone_at answer f (r + 1)) cs) (sym c.as_slice.ensures) c.requires.made.changes)))
+    (is_new ∙ c.apply-lists.ensures.values (lone_at answer f (r + 1)) (more_new ∙ sym size_new) (moved (length c.deref_mut-2.result.now) (count_in f) c.deref_mut-2.result.now (lone_at answer f r) (lone_at answer f (r + 1)) (lone_at answer f (r + 1)) c.changed.result.now c.changed.result.now size_new (was_new ∙ c.requires.at.new_now.values_are) refl refl (subst (λ (cs : List Change). HasChanges (count_in f) (lone_at answer f r) (lone_at answer f (r + 1)) cs) (sym c.changed.ensures) c.requires.made.changes)))
     c.catch_up_new.ensures.new
     (λ one. is_old ∙ c.assign.ensures (old_lone_at answer f (r + 1)) (more_old ∙ sym size_old) (old-step answer f c.requires.frame r (length c.deref_mut.result.now) c.deref_mut.result.now (old_lone_at answer f (r + 1)) c.changes_after.result.now c.requires.round one size_old (was_old ∙ (c.requires.at.old_now one).values_are) refl c.changes_after.ensures))
     c.part_stirred.ensures.parted

@@ -2,9 +2,12 @@ use Rattle.std.proofs.Common.{◌≡◌, ◌∙◌, ◌+◌, ◌-◌, ℕ, List,
 use Rattle.std.specs.List.{range_with_len}
 use Rattle.std.proofs.lemmas.List.FromFn.{length-range_with_len}
 use Rattle.std.proofs.lemmas.List.Sums.{count_by-le-length}
+use Rattle.graph_model.specs.declared.number.NodeNo.{NodeNo}
 use Rattle.change_lists.specs.declared.history.Change.{Change}
+use Rattle.change_lists.specs.ChangeLists.{HasNodes}
 use Rattle.lone_work.specs.CountLaws.{work-by-rounds}
-use Rattle.round_kernel.specs.Frames.{AreStirred, count_in, counted_at, new_arcs, old_arcs}
+use Rattle.round_kernel.specs.Changes.{made_changes, made_marks}
+use Rattle.round_kernel.specs.Frames.{AreStirred, count_in, counted_at, marked_at, new_arcs, old_arcs}
 use Rattle.round_kernel.proofs.Growing.{rounds-more, changes-last}
 use Rattle.round_kernel.proofs.KeptRounds.{kept-next, kept-on}
 use Rattle.round_kernel.proofs.step.run_one.Goals as goal
@@ -14,8 +17,13 @@ go_on-requires-clause-before g c = λ later. changes-last g.U.Updater.answer c.a
 
 pub returns-clause-history : goal.returns-clause-history
 returns-clause-history g c =
-    rounds-more g.U.Updater.answer c.args.frame c.args.history.now c.add_round.new.history c.in_node_order.new.changes c.run_round.new.state.made.marks c.args.round c.requires.history
-    c.in_ok-add_round.ensures.changes c.in_ok-add_round.ensures.first c.in_ok-add_round.ensures.later c.in_ok-in_node_order.ensures c.in_ok-work.ensures.behind.made.marks
+    let answer = g.U.Updater.answer in
+    let f = c.args.frame in
+    let r = c.args.round in
+    let made = c.in_node_order.new.made in
+    rounds-more answer f c.args.history.now c.add_round.new.history (made_changes made) (made_marks made) r c.requires.history
+    c.in_ok-add_round.ensures.changes c.in_ok-add_round.ensures.first c.in_ok-add_round.ensures.later c.in_ok-in_node_order.ensures.changes
+    (λ later. subst (λ (ns : List NodeNo). HasNodes (count_in f) (marked_at answer f r) ns) (sym c.in_node_order.ensures.marks) (c.in_ok-work.ensures.behind.made.marks later))
 
 pub returns-clause-state : goal.returns-clause-state
 returns-clause-state g c =
@@ -32,7 +40,7 @@ returns-clause-state g c =
       kept = λ later. kept-next answer f r kept kept refl (kept-on answer f r kept behind.kept);
       lookups = c.go_on-2.ensures.lookups;
       stirred = λ later few. subst (λ (k : ℕ). AreStirred answer f k c.add_round.new.made.stirred) back
-          (subst (λ (cs : List Change). AreStirred answer f r cs) (sym c.add_round.ensures.stirred) (behind.made.stirred (sym c.add_round.ensures.few ∙ few)));
+          (subst (λ (cs : List Change). AreStirred answer f r cs) (sym (c.add_round.ensures.stirred ∙ c.in_node_order.ensures.stirred)) (behind.made.stirred (sym (c.add_round.ensures.few ∙ c.in_node_order.ensures.few) ∙ few)));
     }
 
 pub returns-clause-work : goal.returns-clause-work

@@ -13,8 +13,8 @@ use Rattle.value_codes.proofs.numbers.span_of_links.Goals as goal
 abbrev no_link : Link
 no_link = record { tail = record { 0 = 0 }; step = pos 0 }
 
-pub with-span-requires-clause-room : goal.with-span-requires-clause-room
-with-span-requires-clause-room c =
+pub with_link-span-requires-clause-room : goal.with_link-span-requires-clause-room
+with_link-span-requires-clause-room c =
     let i = c.loop-link.link-index in
     let so_far = c.loop-link.invariant.span.size in
     omega (
@@ -32,17 +32,15 @@ loop-link-preserved c =
     let l = get_or links i no_link in
     let z = get_or numbers l.tail.0 (pos 0) in
     let had = sent_over numbers (take i links) in
-    let sum = c.sum_of.result in
     let fits : SFits w64 z = search rules in
     let step_fits : SFits w64 l.step = search rules in
-    let sum_fits : SFits w64 sum = search rules in
-    let is : value_in (to_z w64 (of_z w64 sum)) ≡ added true (value_in z) (value_in l.step) =
-    ap value_in (to_z-of_z w64 sum sum_fits) ∙ c.sum_of.ensures
-    ∙ ap (λ (x : ℤ). added true (value_in x) (value_in (to_z w64 (of_z w64 l.step)))) (to_z-of_z w64 z fits)
+    let brought = added true (value_in (to_z w64 (of_z w64 z))) (value_in (to_z w64 (of_z w64 l.step))) in
+    let is : brought ≡ added true (value_in z) (value_in l.step) =
+    ap (λ (x : ℤ). added true (value_in x) (value_in (to_z w64 (of_z w64 l.step)))) (to_z-of_z w64 z fits)
     ∙ ap (λ (x : ℤ). added true (value_in z) (value_in x)) (to_z-of_z w64 l.step step_fits) in
-    let more : with_message had (value_in (to_z w64 (of_z w64 sum))) ≡ sent_over numbers (take (i + 1) links) =
+    let more : with_message had brought ≡ sent_over numbers (take (i + 1) links) =
     ap (λ (m : Val). with_message had m) is ∙ sym (sent-more (λ (l : Link). added true (number_at numbers l.tail.0) (value_in l.step)) links i no_link c.loop-link-test.true) in
     record {
-      span = subst (λ (ms : List Val). IsSpan c.with-span.result ms) more (c.with-span.ensures.span had c.loop-link.invariant.span);
-      bounded = c.with-span.ensures.bounded;
+      span = subst (λ (ms : List Val). IsSpan c.with_link-span.result ms) more (c.with_link-span.ensures.span had c.loop-link.invariant.span);
+      bounded = c.with_link-span.ensures.bounded;
     }

@@ -9,4 +9,4 @@ next_source-requires-clause-changes g c =
     let answer = g.U.Updater.answer in
     let f = c.args.frame in
     let r = c.args.round in
-    subst (λ (cs : List Change). HasChanges (count_in f) (lone_at answer f r) (lone_at answer f (r + 1)) cs) (sym c.as_slice-new.ensures) c.requires.made.changes
+    subst (λ (cs : List Change). HasChanges (count_in f) (lone_at answer f r) (lone_at answer f (r + 1)) cs) (sym c.changed-new.ensures) c.requires.made.changes

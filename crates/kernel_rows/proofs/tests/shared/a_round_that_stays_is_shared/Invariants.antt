@@ -1,0 +1,5 @@
+-- The ledger of the steps is the new one.
+use Rattle.kernel_rows.proofs.tests.shared.a_round_that_stays_is_shared.Given as goal
+
+abbrev pub ghosts-hop_steps : goal.ghosts-hop_steps
+ghosts-hop_steps g a = record { name = a.blank.name; parts = a.blank.parts }
