@@ -14,12 +14,11 @@ ghost use Rattle.gvdl_check.specs.Steps.{edits};
 ghost use Rattle.surge_session.specs.Changes.{AreTurned, AreEdited, HasRemoved, inserted};
 
 use crate::kept::Kept;
+use crate::setting::{RanViews, Setting};
 use crate::state::State;
 use crate::tables::write_from;
 use edge_predicates::{Pred, holds};
 use graph_model::{EdgeNo, Graph};
-use gvdl_check::Plan;
-use result_tables::Form;
 use std::alloc::Global;
 use surge_outside::{List, NoMemory, Sink, Trouble};
 use vertex_lang::Updater;
@@ -103,29 +102,33 @@ fn edit_all(made: &mut [Matrix], changes: &[(EdgeNo, bool)])
 
 // Brings a kept run to the edges that there are now, and writes the tables of all its views.
 fn follow<O: Sink, U: Updater>(
-    alloc: Global,
-    plan: &Plan,
+    setting: Setting,
     n: usize,
     made: &[Matrix],
     changes: &[(EdgeNo, bool)],
     kept: &mut Kept,
-    graph: &Graph,
-    form: Form,
     out: &mut O,
     updater: &mut U,
 ) -> Result<(), Trouble>
-    requires fits { PlanFits graph.now plan.now }
-    requires step { (s : Step) × (slice_get plan.now.steps n ≡ Some s) × (edits s ≡ true) }
-    requires matrices { MatricesAt graph.now plan.now (n + 1) made.now }
-    requires turns { (before : List MatrixData) × MatricesAt graph.now plan.now n before × AreEdited before made.now changes.now × IsKept U.answer graph.now plan.now n before kept.old }
-    ensures kept { OnOk result (IsKept U.answer graph.now plan.now (n + 1) made.now kept.new) }
+    requires fits { PlanFits setting.graph.now setting.plan.now }
+    requires step { (s : Step) × (slice_get setting.plan.now.steps n ≡ Some s) × (edits s ≡ true) }
+    requires matrices { MatricesAt setting.graph.now setting.plan.now (n + 1) made.now }
+    requires turns { (before : List MatrixData) × MatricesAt setting.graph.now setting.plan.now n before × AreEdited before made.now changes.now × IsKept U.answer setting.graph.now setting.plan.now n before kept.old }
+    ensures kept { OnOk result (IsKept U.answer setting.entry.graph.now setting.entry.plan.now (n + 1) made.now kept.new) }
     ensures place { kept.new.place ≡ kept.old.place }
-    ensures ok { OnOk result (O.written out.new ≡ appended (O.written out.old) (followed_text U.answer form graph.now plan.now n kept.old.place)) }
-    ensures err { OnErr result (GrewByFront (O.written out.old) (O.written out.new) (followed_text U.answer form graph.now plan.now n kept.old.place)) }
-    ensures calls { OnOk result (U.calls updater.new ≤ U.calls updater.old + touched_work U.answer graph.now plan.now n kept.old.place) }
+    ensures ok { OnOk result (O.written out.new ≡ appended (O.written out.old) (followed_text U.answer setting.entry.form setting.entry.graph.now setting.entry.plan.now n kept.old.place)) }
+    ensures err { OnErr result (GrewByFront (O.written out.old) (O.written out.new) (followed_text U.answer setting.entry.form setting.entry.graph.now setting.entry.plan.now n kept.old.place)) }
+    ensures calls { OnOk result (U.calls updater.new ≤ U.calls updater.old + touched_work U.answer setting.entry.graph.now setting.entry.plan.now n kept.old.place) }
     ensures faults { O.faults out.old ≤ O.faults out.new }
     ensures failed { result ≡ Err Trouble.Failed → HasRisen (O.faults out.old) (O.faults out.new) }
 {
+    let Setting {
+        alloc,
+        graph,
+        plan,
+        form,
+        ..
+    } = setting;
     edits_are_taken_back();
     let run = &plan.runs.as_slice()[kept.place as usize];
     let collection = &plan.collections.as_slice()[run.collection as usize];
@@ -135,54 +138,45 @@ fn follow<O: Sink, U: Updater>(
         Ok(()) => {}
         Err(NoMemory) => return Err(Trouble::NoMemory),
     }
-    write_from::<O, U>(
-        alloc,
+    let ran = RanViews {
+        graph,
         run,
         collection,
         matrix,
-        0,
-        &kept.engine,
-        form,
-        graph,
-        out,
-    )
+        engine: &kept.engine,
+    };
+    write_from::<O, U>(alloc, ran, 0, form, out)
 }
 
 // Brings each kept run to them, in the order of keeping.
 fn follow_all<O: Sink, U: Updater>(
-    alloc: Global,
-    plan: &Plan,
+    setting: Setting,
     n: usize,
     made: &[Matrix],
     changes: &[(EdgeNo, bool)],
     kept: &mut [Kept],
-    graph: &Graph,
-    form: Form,
     out: &mut O,
     updater: &mut U,
 ) -> Result<(), Trouble>
-    requires fits { PlanFits graph.now plan.now }
-    requires step { (s : Step) × (slice_get plan.now.steps n ≡ Some s) × (edits s ≡ true) }
-    requires matrices { MatricesAt graph.now plan.now (n + 1) made.now }
-    requires turns { (before : List MatrixData) × MatricesAt graph.now plan.now n before × AreEdited before made.now changes.now × All (IsKept U.answer graph.now plan.now n before) kept.old }
-    ensures kept { OnOk result (All (IsKept U.answer graph.now plan.now (n + 1) made.now) kept.new) }
+    requires fits { PlanFits setting.graph.now setting.plan.now }
+    requires step { (s : Step) × (slice_get setting.plan.now.steps n ≡ Some s) × (edits s ≡ true) }
+    requires matrices { MatricesAt setting.graph.now setting.plan.now (n + 1) made.now }
+    requires turns { (before : List MatrixData) × MatricesAt setting.graph.now setting.plan.now n before × AreEdited before made.now changes.now × All (IsKept U.answer setting.graph.now setting.plan.now n before) kept.old }
+    ensures kept { OnOk result (All (IsKept U.answer setting.entry.graph.now setting.entry.plan.now (n + 1) made.now) kept.new) }
     ensures places { OnOk result (places_of kept.new ≡ places_of kept.old) }
-    ensures ok { OnOk result (O.written out.new ≡ appended (O.written out.old) (flat_map (followed_text U.answer form graph.now plan.now n) (places_of kept.old))) }
-    ensures err { OnErr result (GrewByFront (O.written out.old) (O.written out.new) (flat_map (followed_text U.answer form graph.now plan.now n) (places_of kept.old))) }
-    ensures calls { OnOk result (U.calls updater.new ≤ U.calls updater.old + sum_by (touched_work U.answer graph.now plan.now n) (places_of kept.old)) }
+    ensures ok { OnOk result (O.written out.new ≡ appended (O.written out.old) (flat_map (followed_text U.answer setting.entry.form setting.entry.graph.now setting.entry.plan.now n) (places_of kept.old))) }
+    ensures err { OnErr result (GrewByFront (O.written out.old) (O.written out.new) (flat_map (followed_text U.answer setting.entry.form setting.entry.graph.now setting.entry.plan.now n) (places_of kept.old))) }
+    ensures calls { OnOk result (U.calls updater.new ≤ U.calls updater.old + sum_by (touched_work U.answer setting.entry.graph.now setting.entry.plan.now n) (places_of kept.old)) }
     ensures faults { O.faults out.old ≤ O.faults out.new }
     ensures failed { result ≡ Err Trouble.Failed → HasRisen (O.faults out.old) (O.faults out.new) }
 {
     for i in 0..kept.len() {
         if let Err(trouble) = follow::<O, U>(
-            alloc,
-            plan,
+            setting,
             n,
             made,
             changes,
             &mut kept[i],
-            graph,
-            form,
             out,
             updater,
         ) {
@@ -195,38 +189,32 @@ fn follow_all<O: Sink, U: Updater>(
 // Makes edges live, or not, in each matrix, and brings each kept run to them in the order of keeping: the tables of all its views
 // are written, also where nothing changed.
 fn execute_edit<'g, O: Sink, U: Updater>(
-    alloc: Global,
-    plan: &'g Plan,
+    setting: Setting<'g>,
     n: usize,
     changes: &[(EdgeNo, bool)],
     state: &mut State<'g>,
-    graph: &'g Graph,
-    form: Form,
     out: &mut O,
     updater: &mut U,
 ) -> Result<(), Trouble>
-    requires fits { PlanFits graph.now plan.now }
-    requires step { (s : Step) × (slice_get plan.now.steps n ≡ Some s) × (edits s ≡ true) }
-    requires at { IsAt U.answer graph.now plan.now n state.old.live.items state.old.made.items state.old.kept.items }
-    requires changes { AreTurned (live_at graph.now plan.now n) (live_at graph.now plan.now (n + 1)) changes.now }
-    ensures at { OnOk result (IsAt U.answer graph.now plan.now (n + 1) state.new.live.items state.new.made.items state.new.kept.items) }
-    ensures ok { OnOk result (O.written out.new ≡ appended (O.written out.old) (edit_text U.answer form graph.now plan.now n)) }
-    ensures err { OnErr result (GrewByFront (O.written out.old) (O.written out.new) (edit_text U.answer form graph.now plan.now n)) }
-    ensures calls { OnOk result (U.calls updater.new ≤ U.calls updater.old + step_work U.answer graph.now plan.now n) }
+    requires fits { PlanFits setting.graph.now setting.plan.now }
+    requires step { (s : Step) × (slice_get setting.plan.now.steps n ≡ Some s) × (edits s ≡ true) }
+    requires at { IsAt U.answer setting.graph.now setting.plan.now n state.old.live.items state.old.made.items state.old.kept.items }
+    requires changes { AreTurned (live_at setting.graph.now setting.plan.now n) (live_at setting.graph.now setting.plan.now (n + 1)) changes.now }
+    ensures at { OnOk result (IsAt U.answer setting.entry.graph.now setting.entry.plan.now (n + 1) state.new.live.items state.new.made.items state.new.kept.items) }
+    ensures ok { OnOk result (O.written out.new ≡ appended (O.written out.old) (edit_text U.answer setting.entry.form setting.entry.graph.now setting.entry.plan.now n)) }
+    ensures err { OnErr result (GrewByFront (O.written out.old) (O.written out.new) (edit_text U.answer setting.entry.form setting.entry.graph.now setting.entry.plan.now n)) }
+    ensures calls { OnOk result (U.calls updater.new ≤ U.calls updater.old + step_work U.answer setting.entry.graph.now setting.entry.plan.now n) }
     ensures faults { O.faults out.old ≤ O.faults out.new }
     ensures failed { result ≡ Err Trouble.Failed → HasRisen (O.faults out.old) (O.faults out.new) }
 {
     turn(&mut state.live, changes);
     edit_all(&mut state.made, changes);
     follow_all::<O, U>(
-        alloc,
-        plan,
+        setting,
         n,
         &state.made,
         changes,
         &mut state.kept,
-        graph,
-        form,
         out,
         updater,
     )
@@ -234,78 +222,53 @@ fn execute_edit<'g, O: Sink, U: Updater>(
 
 /// Lets so many edges come, from this one on.
 pub(crate) fn execute_insert<'g, O: Sink, U: Updater>(
-    alloc: Global,
-    plan: &'g Plan,
+    setting: Setting<'g>,
     n: usize,
     first: u32,
     count: u32,
     state: &mut State<'g>,
-    graph: &'g Graph,
-    form: Form,
     out: &mut O,
     updater: &mut U,
 ) -> Result<(), Trouble>
-    requires fits { PlanFits graph.now plan.now }
-    requires step { slice_get plan.now.steps n ≡ Some (Step.Insert first count) }
-    requires at { IsAt U.answer graph.now plan.now n state.old.live.items state.old.made.items state.old.kept.items }
-    ensures at { OnOk result (IsAt U.answer graph.now plan.now (n + 1) state.new.live.items state.new.made.items state.new.kept.items) }
-    ensures ok { OnOk result (O.written out.new ≡ appended (O.written out.old) (edit_text U.answer form graph.now plan.now n)) }
-    ensures err { OnErr result (GrewByFront (O.written out.old) (O.written out.new) (edit_text U.answer form graph.now plan.now n)) }
-    ensures calls { OnOk result (U.calls updater.new ≤ U.calls updater.old + step_work U.answer graph.now plan.now n) }
+    requires fits { PlanFits setting.graph.now setting.plan.now }
+    requires step { slice_get setting.plan.now.steps n ≡ Some (Step.Insert first count) }
+    requires at { IsAt U.answer setting.graph.now setting.plan.now n state.old.live.items state.old.made.items state.old.kept.items }
+    ensures at { OnOk result (IsAt U.answer setting.entry.graph.now setting.entry.plan.now (n + 1) state.new.live.items state.new.made.items state.new.kept.items) }
+    ensures ok { OnOk result (O.written out.new ≡ appended (O.written out.old) (edit_text U.answer setting.entry.form setting.entry.graph.now setting.entry.plan.now n)) }
+    ensures err { OnErr result (GrewByFront (O.written out.old) (O.written out.new) (edit_text U.answer setting.entry.form setting.entry.graph.now setting.entry.plan.now n)) }
+    ensures calls { OnOk result (U.calls updater.new ≤ U.calls updater.old + step_work U.answer setting.entry.graph.now setting.entry.plan.now n) }
     ensures faults { O.faults out.old ≤ O.faults out.new }
     ensures failed { result ≡ Err Trouble.Failed → HasRisen (O.faults out.old) (O.faults out.new) }
 {
-    let _all = graph.edge_count();
-    match edges_inserted(alloc, first, count) {
-        Ok(changes) => execute_edit::<O, U>(
-            alloc,
-            plan,
-            n,
-            changes.as_slice(),
-            state,
-            graph,
-            form,
-            out,
-            updater,
-        ),
+    let _all = setting.graph.edge_count();
+    match edges_inserted(setting.alloc, first, count) {
+        Ok(changes) => execute_edit::<O, U>(setting, n, changes.as_slice(), state, out, updater),
         Err(NoMemory) => Err(Trouble::NoMemory),
     }
 }
 
 /// Lets the live edges go for which the predicate holds.
 pub(crate) fn execute_remove<'g, O: Sink, U: Updater>(
-    alloc: Global,
-    plan: &'g Plan,
+    setting: Setting<'g>,
     n: usize,
     rule: &Pred,
     state: &mut State<'g>,
-    graph: &'g Graph,
-    form: Form,
     out: &mut O,
     updater: &mut U,
 ) -> Result<(), Trouble>
-    requires fits { PlanFits graph.now plan.now }
-    requires step { slice_get plan.now.steps n ≡ Some (Step.Remove rule.now) }
-    requires at { IsAt U.answer graph.now plan.now n state.old.live.items state.old.made.items state.old.kept.items }
-    ensures at { OnOk result (IsAt U.answer graph.now plan.now (n + 1) state.new.live.items state.new.made.items state.new.kept.items) }
-    ensures ok { OnOk result (O.written out.new ≡ appended (O.written out.old) (edit_text U.answer form graph.now plan.now n)) }
-    ensures err { OnErr result (GrewByFront (O.written out.old) (O.written out.new) (edit_text U.answer form graph.now plan.now n)) }
-    ensures calls { OnOk result (U.calls updater.new ≤ U.calls updater.old + step_work U.answer graph.now plan.now n) }
+    requires fits { PlanFits setting.graph.now setting.plan.now }
+    requires step { slice_get setting.plan.now.steps n ≡ Some (Step.Remove rule.now) }
+    requires at { IsAt U.answer setting.graph.now setting.plan.now n state.old.live.items state.old.made.items state.old.kept.items }
+    ensures at { OnOk result (IsAt U.answer setting.entry.graph.now setting.entry.plan.now (n + 1) state.new.live.items state.new.made.items state.new.kept.items) }
+    ensures ok { OnOk result (O.written out.new ≡ appended (O.written out.old) (edit_text U.answer setting.entry.form setting.entry.graph.now setting.entry.plan.now n)) }
+    ensures err { OnErr result (GrewByFront (O.written out.old) (O.written out.new) (edit_text U.answer setting.entry.form setting.entry.graph.now setting.entry.plan.now n)) }
+    ensures calls { OnOk result (U.calls updater.new ≤ U.calls updater.old + step_work U.answer setting.entry.graph.now setting.entry.plan.now n) }
     ensures faults { O.faults out.old ≤ O.faults out.new }
     ensures failed { result ≡ Err Trouble.Failed → HasRisen (O.faults out.old) (O.faults out.new) }
 {
+    let Setting { alloc, graph, .. } = setting;
     match edges_removed(alloc, graph, &state.live, rule) {
-        Ok(changes) => execute_edit::<O, U>(
-            alloc,
-            plan,
-            n,
-            changes.as_slice(),
-            state,
-            graph,
-            form,
-            out,
-            updater,
-        ),
+        Ok(changes) => execute_edit::<O, U>(setting, n, changes.as_slice(), state, out, updater),
         Err(NoMemory) => Err(Trouble::NoMemory),
     }
 }

@@ -22,6 +22,7 @@ mod laws;
 mod order;
 mod run;
 mod session;
+mod setting;
 mod state;
 mod statement;
 mod tables;

@@ -14,6 +14,7 @@ ghost use Rattle.surge_session.specs.State.{HasRun, HasFollowed, HasRunIn, order
 ghost use Rattle.surge_session.specs.RunWorks.{first_calls, more_calls};
 
 use crate::kept::RunEngine;
+use crate::setting::Setting;
 use graph_model::{Graph, ViewNo};
 use gvdl_check::{OrderRule, RunPlan};
 use phase_runs::phased;
@@ -292,25 +293,24 @@ fn more_followed<U: Updater>(
 /// Runs the views of a matrix from number `first` on, behind those before it that were run. No run in phases is kept, so that none
 /// goes on.
 pub(crate) fn run_more<U: Updater>(
-    alloc: Global,
-    graph: &Graph,
+    setting: Setting,
     run: &RunPlan,
     engine: &mut RunEngine,
     matrix: &Matrix,
     first: u32,
-    turns: Option<u64>,
     updater: &mut U,
 ) -> Result<(), NoMemory>
     requires first { first ≤ length matrix.now.columns }
-    requires has { HasRunIn U.answer graph.now run.now matrix.now engine.old }
+    requires has { HasRunIn U.answer setting.graph.now run.now matrix.now engine.old }
     requires below { All (λ view. view.0 < first) (order_in engine.old) }
     requires count { length (order_in engine.old) ≤ first }
     requires unphased { run.now.phases ≡ None }
-    ensures has { OnOk result (HasRunIn U.answer graph.now run.now matrix.now engine.new) }
+    ensures has { OnOk result (HasRunIn U.answer setting.entry.graph.now run.now matrix.now engine.new) }
     ensures order { OnOk result (numbers (order_in engine.new) ≡ numbers (order_in engine.old) ++ in_order run.now.order (distance_of matrix.now) (last_or None (numbers (order_in engine.old))) (range_with_len first (length matrix.now.columns - first))) }
     ensures count { OnOk result (length (order_in engine.new) ≡ length (order_in engine.old) + (length matrix.now.columns - first)) }
     ensures calls { OnOk result (U.calls updater.new ≤ U.calls updater.old + more_calls U.answer run.now matrix.now engine.old engine.new) }
 {
+    let Setting { alloc, turns, .. } = setting;
     match engine {
         RunEngine::Plain(engine) => more_shared(alloc, run, engine, matrix, first, turns, updater),
         RunEngine::Versions(engine) => more_followed(alloc, run, engine, matrix, first, updater),

@@ -8,6 +8,7 @@ ghost use Rattle.surge_session.specs.Output.{step_text};
 ghost use Rattle.surge_session.specs.Works.{step_work};
 ghost use Rattle.surge_session.specs.Sessions.{new_session, after_one, spent_one};
 
+use crate::setting::Setting;
 use crate::state::State;
 use crate::statement::execute;
 use graph_model::Graph;
@@ -153,14 +154,16 @@ impl<'g, U: Updater> Session<'g, U> {
         let plan = self.plan;
         match plan.steps.as_slice().get(self.executed) {
             Some(step) => match execute(
-                self.alloc,
-                plan,
+                Setting {
+                    alloc: self.alloc,
+                    graph: self.graph,
+                    plan,
+                    form: self.form,
+                    turns: self.turns,
+                },
                 self.executed,
                 step,
                 &mut self.state,
-                self.graph,
-                self.form,
-                self.turns,
                 out,
                 updater,
             ) {

@@ -15,6 +15,7 @@ use crate::groups::{Grouping, write_groups};
 use crate::kept::Kept;
 use crate::order::write_order;
 use crate::run::{run_first, run_more};
+use crate::setting::{RanViews, Setting};
 use crate::state::State;
 use crate::tables::{is_changes, views_between, write_from};
 use crate::tree::write_tree;
@@ -29,27 +30,30 @@ use view_matrix::Matrix;
 
 // Makes a run, and keeps it if it has a name.
 fn execute_run<'g, O: Sink, U: Updater>(
-    alloc: Global,
-    plan: &'g Plan,
+    setting: Setting<'g>,
     n: usize,
     place: u32,
     state: &mut State<'g>,
-    graph: &'g Graph,
-    form: Form,
-    turns: Option<u64>,
     out: &mut O,
     updater: &mut U,
 ) -> Result<(), Trouble>
-    requires fits { PlanFits graph.now plan.now }
-    requires step { slice_get plan.now.steps n ≡ Some (Step.Run place) }
-    requires at { IsAt U.answer graph.now plan.now n state.old.live.items state.old.made.items state.old.kept.items }
-    ensures at { OnOk result (IsAt U.answer graph.now plan.now (n + 1) state.new.live.items state.new.made.items state.new.kept.items) }
-    ensures ok { OnOk result (O.written out.new ≡ appended (O.written out.old) (step_text U.answer form graph.now plan.now n)) }
-    ensures err { OnErr result (GrewByFront (O.written out.old) (O.written out.new) (step_text U.answer form graph.now plan.now n)) }
-    ensures calls { OnOk result (U.calls updater.new ≤ U.calls updater.old + step_work U.answer graph.now plan.now n) }
+    requires fits { PlanFits setting.graph.now setting.plan.now }
+    requires step { slice_get setting.plan.now.steps n ≡ Some (Step.Run place) }
+    requires at { IsAt U.answer setting.graph.now setting.plan.now n state.old.live.items state.old.made.items state.old.kept.items }
+    ensures at { OnOk result (IsAt U.answer setting.entry.graph.now setting.entry.plan.now (n + 1) state.new.live.items state.new.made.items state.new.kept.items) }
+    ensures ok { OnOk result (O.written out.new ≡ appended (O.written out.old) (step_text U.answer setting.entry.form setting.entry.graph.now setting.entry.plan.now n)) }
+    ensures err { OnErr result (GrewByFront (O.written out.old) (O.written out.new) (step_text U.answer setting.entry.form setting.entry.graph.now setting.entry.plan.now n)) }
+    ensures calls { OnOk result (U.calls updater.new ≤ U.calls updater.old + step_work U.answer setting.entry.graph.now setting.entry.plan.now n) }
     ensures faults { O.faults out.old ≤ O.faults out.new }
     ensures failed { result ≡ Err Trouble.Failed → HasRisen (O.faults out.old) (O.faults out.new) }
 {
+    let Setting {
+        alloc,
+        graph,
+        plan,
+        form,
+        turns,
+    } = setting;
     let run = &plan.runs.as_slice()[place as usize];
     let collection = &plan.collections.as_slice()[run.collection as usize];
     let matrix = &state.made[run.collection as usize];
@@ -57,9 +61,14 @@ fn execute_run<'g, O: Sink, U: Updater>(
         Ok(engine) => engine,
         Err(NoMemory) => return Err(Trouble::NoMemory),
     };
-    if let Err(trouble) = write_from::<O, U>(
-        alloc, run, collection, matrix, 0, &engine, form, graph, out,
-    ) {
+    let ran = RanViews {
+        graph,
+        run,
+        collection,
+        matrix,
+        engine: &engine,
+    };
+    if let Err(trouble) = write_from::<O, U>(alloc, ran, 0, form, out) {
         return Err(trouble);
     }
     match state.keep::<U>(graph, plan, n, place, run, engine) {
@@ -68,105 +77,96 @@ fn execute_run<'g, O: Sink, U: Updater>(
     }
 }
 
-// Makes a kept run on the views that were added to a collection, if it is a run on this collection, and writes their tables.
-fn append_kept<O: Sink, U: Updater>(
-    alloc: Global,
-    plan: &Plan,
-    n: usize,
-    collection: &CollectionPlan,
-    made: &[Matrix],
+// The views that a statement adds to the collection at a place: those that its matrix, one of these, has from number `first` on.
+#[derive(Clone, Copy)]
+struct Added<'a> {
+    collection: &'a CollectionPlan,
+    made: &'a [Matrix],
     place: u32,
     first: u32,
+}
+
+// Makes a kept run on the views that were added to a collection, if it is a run on this collection, and writes their tables.
+fn append_kept<O: Sink, U: Updater>(
+    setting: Setting,
+    n: usize,
+    added: Added,
     kept: &mut Kept,
-    graph: &Graph,
-    form: Form,
-    turns: Option<u64>,
     out: &mut O,
     updater: &mut U,
 ) -> Result<(), Trouble>
-    requires fits { PlanFits graph.now plan.now }
-    requires step { (number count : ℕ) × (slice_get plan.now.steps n ≡ Some (Step.Append place number count)) }
-    requires collection { slice_get plan.now.collections place ≡ Some collection.now }
-    requires matrices { MatricesAt graph.now plan.now (n + 1) made.now }
-    requires first { first ≡ length (made_at plan.now n place) }
-    requires kept { IsKept U.answer graph.now plan.now n made.now kept.old }
-    ensures kept { OnOk result (IsKept U.answer graph.now plan.now (n + 1) made.now kept.new) }
+    requires fits { PlanFits setting.graph.now setting.plan.now }
+    requires step { (number count : ℕ) × (slice_get setting.plan.now.steps n ≡ Some (Step.Append added.place number count)) }
+    requires collection { slice_get setting.plan.now.collections added.place ≡ Some added.collection.now }
+    requires matrices { MatricesAt setting.graph.now setting.plan.now (n + 1) added.made.now }
+    requires first { added.first ≡ length (made_at setting.plan.now n added.place) }
+    requires kept { IsKept U.answer setting.graph.now setting.plan.now n added.made.now kept.old }
+    ensures kept { OnOk result (IsKept U.answer setting.entry.graph.now setting.entry.plan.now (n + 1) added.entry.made.now kept.new) }
     ensures place { kept.new.place ≡ kept.old.place }
-    ensures ok { OnOk result (O.written out.new ≡ appended (O.written out.old) (kept_text U.answer form (graph_at graph.now plan.now (n + 1)) plan.now collection.now.name (slice_range collection.now.views first (length (made_at plan.now (n + 1) place))) place kept.old.place)) }
-    ensures err { OnErr result (GrewByFront (O.written out.old) (O.written out.new) (kept_text U.answer form (graph_at graph.now plan.now (n + 1)) plan.now collection.now.name (slice_range collection.now.views first (length (made_at plan.now (n + 1) place))) place kept.old.place)) }
-    ensures calls { OnOk result (U.calls updater.new ≤ U.calls updater.old + added_work U.answer graph.now plan.now n place kept.old.place) }
+    ensures ok { OnOk result (O.written out.new ≡ appended (O.written out.old) (kept_text U.answer setting.entry.form (graph_at setting.entry.graph.now setting.entry.plan.now (n + 1)) setting.entry.plan.now added.entry.collection.now.name (slice_range added.entry.collection.now.views added.entry.first (length (made_at setting.entry.plan.now (n + 1) added.entry.place))) added.entry.place kept.old.place)) }
+    ensures err { OnErr result (GrewByFront (O.written out.old) (O.written out.new) (kept_text U.answer setting.entry.form (graph_at setting.entry.graph.now setting.entry.plan.now (n + 1)) setting.entry.plan.now added.entry.collection.now.name (slice_range added.entry.collection.now.views added.entry.first (length (made_at setting.entry.plan.now (n + 1) added.entry.place))) added.entry.place kept.old.place)) }
+    ensures calls { OnOk result (U.calls updater.new ≤ U.calls updater.old + added_work U.answer setting.entry.graph.now setting.entry.plan.now n added.entry.place kept.old.place) }
     ensures faults { O.faults out.old ≤ O.faults out.new }
     ensures failed { result ≡ Err Trouble.Failed → HasRisen (O.faults out.old) (O.faults out.new) }
 {
+    let Setting {
+        alloc,
+        graph,
+        plan,
+        form,
+        ..
+    } = setting;
+    let Added {
+        collection,
+        made,
+        place,
+        first,
+    } = added;
     let run = &plan.runs.as_slice()[kept.place as usize];
     if run.collection != place {
         return Ok(());
     }
     let matrix = &made[place as usize];
     let engine = &mut kept.engine;
-    match run_more(alloc, graph, run, engine, matrix, first, turns, updater) {
+    match run_more(setting, run, engine, matrix, first, updater) {
         Ok(()) => {}
         Err(NoMemory) => return Err(Trouble::NoMemory),
     }
-    write_from::<O, U>(
-        alloc,
+    let ran = RanViews {
+        graph,
         run,
         collection,
         matrix,
-        first,
-        &kept.engine,
-        form,
-        graph,
-        out,
-    )
+        engine: &kept.engine,
+    };
+    write_from::<O, U>(alloc, ran, first, form, out)
 }
 
 // Makes each kept run on the views that were added to its collection.
 fn append_all<O: Sink, U: Updater>(
-    alloc: Global,
-    plan: &Plan,
+    setting: Setting,
     n: usize,
-    collection: &CollectionPlan,
-    made: &[Matrix],
-    place: u32,
-    first: u32,
+    added: Added,
     kept: &mut [Kept],
-    graph: &Graph,
-    form: Form,
-    turns: Option<u64>,
     out: &mut O,
     updater: &mut U,
 ) -> Result<(), Trouble>
-    requires fits { PlanFits graph.now plan.now }
-    requires step { (number count : ℕ) × (slice_get plan.now.steps n ≡ Some (Step.Append place number count)) }
-    requires collection { slice_get plan.now.collections place ≡ Some collection.now }
-    requires matrices { MatricesAt graph.now plan.now (n + 1) made.now }
-    requires first { first ≡ length (made_at plan.now n place) }
-    requires kept { All (IsKept U.answer graph.now plan.now n made.now) kept.old }
-    ensures kept { OnOk result (All (IsKept U.answer graph.now plan.now (n + 1) made.now) kept.new) }
+    requires fits { PlanFits setting.graph.now setting.plan.now }
+    requires step { (number count : ℕ) × (slice_get setting.plan.now.steps n ≡ Some (Step.Append added.place number count)) }
+    requires collection { slice_get setting.plan.now.collections added.place ≡ Some added.collection.now }
+    requires matrices { MatricesAt setting.graph.now setting.plan.now (n + 1) added.made.now }
+    requires first { added.first ≡ length (made_at setting.plan.now n added.place) }
+    requires kept { All (IsKept U.answer setting.graph.now setting.plan.now n added.made.now) kept.old }
+    ensures kept { OnOk result (All (IsKept U.answer setting.entry.graph.now setting.entry.plan.now (n + 1) added.entry.made.now) kept.new) }
     ensures places { OnOk result (places_of kept.new ≡ places_of kept.old) }
-    ensures ok { OnOk result (O.written out.new ≡ appended (O.written out.old) (flat_map (kept_text U.answer form (graph_at graph.now plan.now (n + 1)) plan.now collection.now.name (slice_range collection.now.views first (length (made_at plan.now (n + 1) place))) place) (places_of kept.old))) }
-    ensures err { OnErr result (GrewByFront (O.written out.old) (O.written out.new) (flat_map (kept_text U.answer form (graph_at graph.now plan.now (n + 1)) plan.now collection.now.name (slice_range collection.now.views first (length (made_at plan.now (n + 1) place))) place) (places_of kept.old))) }
-    ensures calls { OnOk result (U.calls updater.new ≤ U.calls updater.old + sum_by (added_work U.answer graph.now plan.now n place) (places_of kept.old)) }
+    ensures ok { OnOk result (O.written out.new ≡ appended (O.written out.old) (flat_map (kept_text U.answer setting.entry.form (graph_at setting.entry.graph.now setting.entry.plan.now (n + 1)) setting.entry.plan.now added.entry.collection.now.name (slice_range added.entry.collection.now.views added.entry.first (length (made_at setting.entry.plan.now (n + 1) added.entry.place))) added.entry.place) (places_of kept.old))) }
+    ensures err { OnErr result (GrewByFront (O.written out.old) (O.written out.new) (flat_map (kept_text U.answer setting.entry.form (graph_at setting.entry.graph.now setting.entry.plan.now (n + 1)) setting.entry.plan.now added.entry.collection.now.name (slice_range added.entry.collection.now.views added.entry.first (length (made_at setting.entry.plan.now (n + 1) added.entry.place))) added.entry.place) (places_of kept.old))) }
+    ensures calls { OnOk result (U.calls updater.new ≤ U.calls updater.old + sum_by (added_work U.answer setting.entry.graph.now setting.entry.plan.now n added.entry.place) (places_of kept.old)) }
     ensures faults { O.faults out.old ≤ O.faults out.new }
     ensures failed { result ≡ Err Trouble.Failed → HasRisen (O.faults out.old) (O.faults out.new) }
 {
     for i in 0..kept.len() {
-        if let Err(trouble) = append_kept(
-            alloc,
-            plan,
-            n,
-            collection,
-            made,
-            place,
-            first,
-            &mut kept[i],
-            graph,
-            form,
-            turns,
-            out,
-            updater,
-        ) {
+        if let Err(trouble) = append_kept(setting, n, added, &mut kept[i], out, updater) {
             return Err(trouble);
         }
     }
@@ -175,46 +175,42 @@ fn append_all<O: Sink, U: Updater>(
 
 // Adds views to a collection, and makes each kept run on them.
 fn execute_append<'g, O: Sink, U: Updater>(
-    alloc: Global,
-    plan: &'g Plan,
+    setting: Setting<'g>,
     n: usize,
     place: u32,
     count: u32,
     state: &mut State<'g>,
-    graph: &'g Graph,
-    form: Form,
-    turns: Option<u64>,
     out: &mut O,
     updater: &mut U,
 ) -> Result<(), Trouble>
-    requires fits { PlanFits graph.now plan.now }
-    requires step { (first : ℕ) × (slice_get plan.now.steps n ≡ Some (Step.Append place first count)) }
-    requires at { IsAt U.answer graph.now plan.now n state.old.live.items state.old.made.items state.old.kept.items }
-    ensures at { OnOk result (IsAt U.answer graph.now plan.now (n + 1) state.new.live.items state.new.made.items state.new.kept.items) }
-    ensures ok { OnOk result (O.written out.new ≡ appended (O.written out.old) (append_text U.answer form graph.now plan.now n place)) }
-    ensures err { OnErr result (GrewByFront (O.written out.old) (O.written out.new) (append_text U.answer form graph.now plan.now n place)) }
-    ensures calls { OnOk result (U.calls updater.new ≤ U.calls updater.old + step_work U.answer graph.now plan.now n) }
+    requires fits { PlanFits setting.graph.now setting.plan.now }
+    requires step { (first : ℕ) × (slice_get setting.plan.now.steps n ≡ Some (Step.Append place first count)) }
+    requires at { IsAt U.answer setting.graph.now setting.plan.now n state.old.live.items state.old.made.items state.old.kept.items }
+    ensures at { OnOk result (IsAt U.answer setting.entry.graph.now setting.entry.plan.now (n + 1) state.new.live.items state.new.made.items state.new.kept.items) }
+    ensures ok { OnOk result (O.written out.new ≡ appended (O.written out.old) (append_text U.answer setting.entry.form setting.entry.graph.now setting.entry.plan.now n place)) }
+    ensures err { OnErr result (GrewByFront (O.written out.old) (O.written out.new) (append_text U.answer setting.entry.form setting.entry.graph.now setting.entry.plan.now n place)) }
+    ensures calls { OnOk result (U.calls updater.new ≤ U.calls updater.old + step_work U.answer setting.entry.graph.now setting.entry.plan.now n) }
     ensures faults { O.faults out.old ≤ O.faults out.new }
     ensures failed { result ≡ Err Trouble.Failed → HasRisen (O.faults out.old) (O.faults out.new) }
 {
+    let Setting {
+        alloc,
+        graph,
+        plan,
+        ..
+    } = setting;
     let collection = &plan.collections.as_slice()[place as usize];
     let first = state.views(graph, plan, n, place);
     match state.grow::<U>(alloc, graph, plan, n, place, count) {
-        Ok(()) => append_all(
-            alloc,
-            plan,
-            n,
-            collection,
-            &state.made,
-            place,
-            first,
-            &mut state.kept,
-            graph,
-            form,
-            turns,
-            out,
-            updater,
-        ),
+        Ok(()) => {
+            let added = Added {
+                collection,
+                made: &state.made,
+                place,
+                first,
+            };
+            append_all(setting, n, added, &mut state.kept, out, updater)
+        }
         Err(NoMemory) => Err(Trouble::NoMemory),
     }
 }
@@ -275,23 +271,27 @@ fn show_tree<O: Sink>(
 
 // Counts the edges of the views that a collection has so far by the groups of their ends.
 fn aggregate<O: Sink>(
-    alloc: Global,
-    plan: &Plan,
+    setting: Setting,
     n: usize,
     place: u32,
     grouping: Grouping,
     state: &State,
-    graph: &Graph,
     out: &mut O,
 ) -> Result<(), Trouble>
-    requires fits { PlanFits graph.now plan.now }
-    requires step { slice_get plan.now.steps n ≡ Some (Step.Aggregate place grouping.by grouping.sum) }
-    requires at { MatricesAt graph.now plan.now n state.now.made.items }
-    ensures ok { OnOk result (O.written out.new ≡ appended (O.written out.old) (groups_text graph.now plan.now n place grouping.by grouping.sum)) }
-    ensures err { OnErr result (GrewByFront (O.written out.old) (O.written out.new) (groups_text graph.now plan.now n place grouping.by grouping.sum)) }
+    requires fits { PlanFits setting.graph.now setting.plan.now }
+    requires step { slice_get setting.plan.now.steps n ≡ Some (Step.Aggregate place grouping.by grouping.sum) }
+    requires at { MatricesAt setting.graph.now setting.plan.now n state.now.made.items }
+    ensures ok { OnOk result (O.written out.new ≡ appended (O.written out.old) (groups_text setting.entry.graph.now setting.entry.plan.now n place grouping.by grouping.sum)) }
+    ensures err { OnErr result (GrewByFront (O.written out.old) (O.written out.new) (groups_text setting.entry.graph.now setting.entry.plan.now n place grouping.by grouping.sum)) }
     ensures faults { O.faults out.old ≤ O.faults out.new }
     ensures failed { result ≡ Err Trouble.Failed → HasRisen (O.faults out.old) (O.faults out.new) }
 {
+    let Setting {
+        alloc,
+        graph,
+        plan,
+        ..
+    } = setting;
     match plan.collections.as_slice().get(place as usize) {
         Some(collection) => {
             let matrix = &state.made[place as usize];
@@ -376,72 +376,58 @@ fn is_hidden(step: &Step, form: Form) -> bool
 
 /// Does what statement `n` asks for, and writes what it prints.
 pub(crate) fn execute<'g, O: Sink, U: Updater>(
-    alloc: Global,
-    plan: &'g Plan,
+    setting: Setting<'g>,
     n: usize,
     step: &Step,
     state: &mut State<'g>,
-    graph: &'g Graph,
-    form: Form,
-    turns: Option<u64>,
     out: &mut O,
     updater: &mut U,
 ) -> Result<(), Trouble>
-    requires fits { PlanFits graph.now plan.now }
-    requires step { slice_get plan.now.steps n ≡ Some step.now }
-    requires at { IsAt U.answer graph.now plan.now n state.old.live.items state.old.made.items state.old.kept.items }
-    ensures at { OnOk result (IsAt U.answer graph.now plan.now (n + 1) state.new.live.items state.new.made.items state.new.kept.items) }
-    ensures ok { OnOk result (O.written out.new ≡ appended (O.written out.old) (step_text U.answer form graph.now plan.now n)) }
-    ensures err { OnErr result (GrewByFront (O.written out.old) (O.written out.new) (step_text U.answer form graph.now plan.now n)) }
-    ensures calls { OnOk result (U.calls updater.new ≤ U.calls updater.old + step_work U.answer graph.now plan.now n) }
+    requires fits { PlanFits setting.graph.now setting.plan.now }
+    requires step { slice_get setting.plan.now.steps n ≡ Some step.now }
+    requires at { IsAt U.answer setting.graph.now setting.plan.now n state.old.live.items state.old.made.items state.old.kept.items }
+    ensures at { OnOk result (IsAt U.answer setting.entry.graph.now setting.entry.plan.now (n + 1) state.new.live.items state.new.made.items state.new.kept.items) }
+    ensures ok { OnOk result (O.written out.new ≡ appended (O.written out.old) (step_text U.answer setting.entry.form setting.entry.graph.now setting.entry.plan.now n)) }
+    ensures err { OnErr result (GrewByFront (O.written out.old) (O.written out.new) (step_text U.answer setting.entry.form setting.entry.graph.now setting.entry.plan.now n)) }
+    ensures calls { OnOk result (U.calls updater.new ≤ U.calls updater.old + step_work U.answer setting.entry.graph.now setting.entry.plan.now n) }
     ensures faults { O.faults out.old ≤ O.faults out.new }
     ensures failed { result ≡ Err Trouble.Failed → HasRisen (O.faults out.old) (O.faults out.new) }
 {
-    if is_hidden(step, form) {
+    if is_hidden(step, setting.form) {
         return Ok(());
     }
+    let Setting {
+        alloc,
+        graph,
+        plan,
+        ..
+    } = setting;
     match step {
         Step::Make { collection, count } => {
             execute_make::<U>(alloc, plan, n, *collection, *count, state, graph)
         }
-        Step::Run { run } => execute_run(
-            alloc, plan, n, *run, state, graph, form, turns, out, updater,
-        ),
+        Step::Run { run } => execute_run(setting, n, *run, state, out, updater),
         Step::Append {
             collection,
             count,
             ..
-        } => execute_append(
-            alloc,
-            plan,
-            n,
-            *collection,
-            *count,
-            state,
-            graph,
-            form,
-            turns,
-            out,
-            updater,
-        ),
+        } => execute_append(setting, n, *collection, *count, state, out, updater),
         Step::ShowOrder { collection } => {
             show_order(alloc, plan, n, *collection, state, graph, out)
         }
         Step::ShowWork { run } => show_work::<O, U>(alloc, plan, n, *run, state, graph, out),
         Step::ShowTree { collection } => show_tree(alloc, plan, n, *collection, state, graph, out),
         Step::Insert { first, count } => execute_insert::<O, U>(
-            alloc, plan, n, *first, *count, state, graph, form, out, updater,
+            setting, n, *first, *count, state, out, updater,
         ),
-        Step::Remove { rule } => {
-            execute_remove::<O, U>(alloc, plan, n, rule, state, graph, form, out, updater)
-        }
+        Step::Remove { rule } => { execute_remove::<O, U>(setting, n, rule, state, out, updater) }
         Step::Aggregate {
             collection,
             by,
             sum,
         } => {
             let grouping = Grouping { by: *by, sum: *sum };
-            aggregate(alloc, plan, n, *collection, grouping, state, graph, out)
+            aggregate(setting, n, *collection, grouping, state, out)
         }
         Step::Nothing => Ok(()),
     }

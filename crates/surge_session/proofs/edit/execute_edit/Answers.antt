@@ -31,8 +31,8 @@ turn-requires g c =
 pub edit_all-requires : goal.edit_all-requires
 edit_all-requires g c =
     let answer = g.U.Updater.answer in
-    let graph = c.args.graph.now in
-    let p = c.args.plan.now in
+    let graph = c.args.setting.graph.now in
+    let p = c.args.setting.plan.now in
     let n = c.args.n in
     let s = c.requires.step in
     let cs = c.args.changes.now in
@@ -45,8 +45,8 @@ edit_all-requires g c =
 pub follow_all-requires-clause-matrices : goal.follow_all-requires-clause-matrices
 follow_all-requires-clause-matrices g c =
     let answer = g.U.Updater.answer in
-    let graph = c.args.graph.now in
-    let p = c.args.plan.now in
+    let graph = c.args.setting.graph.now in
+    let p = c.args.setting.plan.now in
     let n = c.args.n in
     let s = c.requires.step in
     let cs = c.args.changes.now in
@@ -67,8 +67,8 @@ follow_all-requires-clause-matrices g c =
 pub follow_all-requires-clause-turns : goal.follow_all-requires-clause-turns
 follow_all-requires-clause-turns g c =
     let answer = g.U.Updater.answer in
-    let graph = c.args.graph.now in
-    let p = c.args.plan.now in
+    let graph = c.args.setting.graph.now in
+    let p = c.args.setting.plan.now in
     let n = c.args.n in
     let s = c.requires.step in
     let cs = c.args.changes.now in
@@ -93,8 +93,8 @@ follow_all-requires-clause-turns g c =
 pub returns-clause-at : goal.returns-clause-at
 returns-clause-at g c =
     let answer = g.U.Updater.answer in
-    let graph = c.args.graph.now in
-    let p = c.args.plan.now in
+    let graph = c.args.setting.graph.now in
+    let p = c.args.setting.plan.now in
     let n = c.args.n in
     let s = c.requires.step in
     let cs = c.args.changes.now in
@@ -128,8 +128,8 @@ returns-clause-at g c =
 pub returns-clause-ok : goal.returns-clause-ok
 returns-clause-ok g c =
     let answer = g.U.Updater.answer in
-    let graph = c.args.graph.now in
-    let p = c.args.plan.now in
+    let graph = c.args.setting.graph.now in
+    let p = c.args.setting.plan.now in
     let n = c.args.n in
     let s = c.requires.step in
     let cs = c.args.changes.now in
@@ -138,14 +138,14 @@ returns-clause-ok g c =
     let made = c.args.state.now.made in
     let kept = c.args.state.now.kept in
     let places : places_of c.deref_mut-3.result.now ≡ kept_at p n = ap places_of c.deref_mut-3.ensures.value ∙ at.places in
-    let text : flat_map (followed_text answer c.args.form graph p n) (places_of c.deref_mut-3.result.now) ≡ edit_text answer c.args.form graph p n = ap (λ (ks : List ℕ). flat_map (followed_text answer c.args.form graph p n) ks) places in
+    let text : flat_map (followed_text answer c.args.setting.form graph p n) (places_of c.deref_mut-3.result.now) ≡ edit_text answer c.args.setting.form graph p n = ap (λ (ks : List ℕ). flat_map (followed_text answer c.args.setting.form graph p n) ks) places in
     subst (λ (t : List ℕ). OnOk c.follow_all.result (g.O.Sink.written c.follow_all.new.out ≡ appended (g.O.Sink.written c.args.out.now) t)) text c.follow_all.ensures.ok
 
 pub returns-clause-err : goal.returns-clause-err
 returns-clause-err g c =
     let answer = g.U.Updater.answer in
-    let graph = c.args.graph.now in
-    let p = c.args.plan.now in
+    let graph = c.args.setting.graph.now in
+    let p = c.args.setting.plan.now in
     let n = c.args.n in
     let s = c.requires.step in
     let cs = c.args.changes.now in
@@ -154,14 +154,14 @@ returns-clause-err g c =
     let made = c.args.state.now.made in
     let kept = c.args.state.now.kept in
     let places : places_of c.deref_mut-3.result.now ≡ kept_at p n = ap places_of c.deref_mut-3.ensures.value ∙ at.places in
-    let text : flat_map (followed_text answer c.args.form graph p n) (places_of c.deref_mut-3.result.now) ≡ edit_text answer c.args.form graph p n = ap (λ (ks : List ℕ). flat_map (followed_text answer c.args.form graph p n) ks) places in
+    let text : flat_map (followed_text answer c.args.setting.form graph p n) (places_of c.deref_mut-3.result.now) ≡ edit_text answer c.args.setting.form graph p n = ap (λ (ks : List ℕ). flat_map (followed_text answer c.args.setting.form graph p n) ks) places in
     subst (λ (t : List ℕ). OnErr c.follow_all.result (GrewByFront (g.O.Sink.written c.args.out.now) (g.O.Sink.written c.follow_all.new.out) t)) text c.follow_all.ensures.err
 
 pub returns-clause-calls : goal.returns-clause-calls
 returns-clause-calls g c =
     let answer = g.U.Updater.answer in
-    let graph = c.args.graph.now in
-    let p = c.args.plan.now in
+    let graph = c.args.setting.graph.now in
+    let p = c.args.setting.plan.now in
     let n = c.args.n in
     let s = c.requires.step in
     let cs = c.args.changes.now in

@@ -10,7 +10,7 @@ use Rattle.surge_session.proofs.edit.execute_insert.Goals as goal
 
 pub edges_inserted-requires : goal.edges_inserted-requires
 edges_inserted-requires g c =
-    let within = brought_within c.args.graph.now c.args.plan.now c.requires.fits c.args.n c.args.first c.args.count c.requires.step in
+    let within = brought_within c.args.setting.graph.now c.args.setting.plan.now c.requires.fits c.args.n c.args.first c.args.count c.requires.step in
     omega (arith, within, c.edge_count-all.ensures.count, c.edge_count-all.ensures.limit)
 
 pub execute_edit-requires-clause-step : goal.execute_edit-requires-clause-step
@@ -18,7 +18,7 @@ execute_edit-requires-clause-step g c = (step.Insert c.args.first c.args.count, 
 
 pub execute_edit-requires-clause-changes : goal.execute_edit-requires-clause-changes
 execute_edit-requires-clause-changes g c =
-    let graph = c.args.graph.now in
-    let p = c.args.plan.now in
+    let graph = c.args.setting.graph.now in
+    let p = c.args.setting.plan.now in
     let n = c.args.n in
     subst (λ (cs : List (EdgeNo × Bool)). AreTurned (live_at graph p n) (live_at graph p (n + 1)) cs) (sym (c.as_slice.ensures ∙ c.in-Ok.ensures)) (insert_turns graph p c.requires.fits n c.args.first c.args.count c.requires.step)

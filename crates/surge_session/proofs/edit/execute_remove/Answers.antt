@@ -8,15 +8,15 @@ use Rattle.surge_session.proofs.LiveFacts.{live_count, live_next}
 use Rattle.surge_session.proofs.edit.execute_remove.Goals as goal
 
 pub edges_removed-requires : goal.edges_removed-requires
-edges_removed-requires g c = ap (λ (l : List Bool). length l) (c.deref.ensures.value ∙ c.requires.at.live) ∙ live_count c.args.graph.now c.args.plan.now c.args.n
+edges_removed-requires g c = ap (λ (l : List Bool). length l) (c.deref.ensures.value ∙ c.requires.at.live) ∙ live_count c.args.setting.graph.now c.args.setting.plan.now c.args.n
 
 pub execute_edit-requires-clause-step : goal.execute_edit-requires-clause-step
 execute_edit-requires-clause-step g c = (step.Remove c.args.rule.now, c.requires.step, refl)
 
 pub execute_edit-requires-clause-changes : goal.execute_edit-requires-clause-changes
 execute_edit-requires-clause-changes g c =
-    let graph = c.args.graph.now in
-    let p = c.args.plan.now in
+    let graph = c.args.setting.graph.now in
+    let p = c.args.setting.plan.now in
     let n = c.args.n in
     let rule = c.args.rule.now in
     let there : c.deref.result.now ≡ live_at graph p n = c.deref.ensures.value ∙ c.requires.at.live in

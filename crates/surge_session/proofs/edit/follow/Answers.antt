@@ -11,8 +11,8 @@ use Rattle.surge_session.proofs.edit.follow.Goals as goal
 
 pub bounds-made-run : goal.bounds-made-run
 bounds-made-run g c =
-    let graph = c.args.graph.now in
-    let p = c.args.plan.now in
+    let graph = c.args.setting.graph.now in
+    let p = c.args.setting.plan.now in
     let k = c.args.kept.now in
     let kept = c.requires.turns.3 in
     let run = c.index-as_slice-kept.result in
@@ -22,8 +22,8 @@ bounds-made-run g c =
 pub advance-requires-clause-edited : goal.advance-requires-clause-edited
 advance-requires-clause-edited g c =
     let answer = g.U.Updater.answer in
-    let graph = c.args.graph.now in
-    let p = c.args.plan.now in
+    let graph = c.args.setting.graph.now in
+    let p = c.args.setting.plan.now in
     let n = c.args.n in
     let made = c.args.made.now in
     let k = c.args.kept.now in
@@ -40,8 +40,8 @@ advance-requires-clause-edited g c =
 pub advance-requires-clause-unphased : goal.advance-requires-clause-unphased
 advance-requires-clause-unphased g c =
     let answer = g.U.Updater.answer in
-    let graph = c.args.graph.now in
-    let p = c.args.plan.now in
+    let graph = c.args.setting.graph.now in
+    let p = c.args.setting.plan.now in
     let n = c.args.n in
     let made = c.args.made.now in
     let k = c.args.kept.now in
@@ -58,8 +58,8 @@ advance-requires-clause-unphased g c =
 pub advance-requires-clause-turns : goal.advance-requires-clause-turns
 advance-requires-clause-turns g c =
     let answer = g.U.Updater.answer in
-    let graph = c.args.graph.now in
-    let p = c.args.plan.now in
+    let graph = c.args.setting.graph.now in
+    let p = c.args.setting.plan.now in
     let n = c.args.n in
     let made = c.args.made.now in
     let k = c.args.kept.now in
@@ -76,8 +76,8 @@ advance-requires-clause-turns g c =
 pub write_from-requires-clause-within : goal.write_from-requires-clause-within
 write_from-requires-clause-within g c =
     let answer = g.U.Updater.answer in
-    let graph = c.args.graph.now in
-    let p = c.args.plan.now in
+    let graph = c.args.setting.graph.now in
+    let p = c.args.setting.plan.now in
     let n = c.args.n in
     let made = c.args.made.now in
     let k = c.args.kept.now in
@@ -96,8 +96,8 @@ write_from-requires-clause-within g c =
 pub write_from-requires-clause-shows : goal.write_from-requires-clause-shows
 write_from-requires-clause-shows g c =
     let answer = g.U.Updater.answer in
-    let graph = c.args.graph.now in
-    let p = c.args.plan.now in
+    let graph = c.args.setting.graph.now in
+    let p = c.args.setting.plan.now in
     let n = c.args.n in
     let made = c.args.made.now in
     let k = c.args.kept.now in
@@ -116,8 +116,8 @@ write_from-requires-clause-shows g c =
 pub returns-clause-kept : goal.returns-clause-kept
 returns-clause-kept g c =
     let answer = g.U.Updater.answer in
-    let graph = c.args.graph.now in
-    let p = c.args.plan.now in
+    let graph = c.args.setting.graph.now in
+    let p = c.args.setting.plan.now in
     let n = c.args.n in
     let made = c.args.made.now in
     let k = c.args.kept.now in
@@ -134,8 +134,8 @@ returns-clause-kept g c =
 pub returns-clause-ok : goal.returns-clause-ok
 returns-clause-ok g c =
     let answer = g.U.Updater.answer in
-    let graph = c.args.graph.now in
-    let p = c.args.plan.now in
+    let graph = c.args.setting.graph.now in
+    let p = c.args.setting.plan.now in
     let n = c.args.n in
     let made = c.args.made.now in
     let k = c.args.kept.now in
@@ -149,13 +149,13 @@ returns-clause-ok g c =
     let m_at : slice_get made run.collection ≡ Some m = matrix_here graph p (n + 1) made c.requires.matrices run.collection m lt c.index-made-run.is in
     let collection = c.index-as_slice-run.result in
     let c_at : slice_get p.collections run.collection ≡ Some collection = found c.as_slice-2.result.now p.collections run.collection collection c.as_slice-2.ensures (omega (arith, lt, ap (λ (cs : List CollectionPlan). length cs) c.as_slice-2.ensures)) c.index-as_slice-run.is in
-    subst (λ (t : List ℕ). OnOk c.write_from.result (g.O.Sink.written c.write_from.new.out ≡ appended (g.O.Sink.written c.args.out.now) t)) (text answer graph p n s.0 s.1 s.2 turns.0 made c.args.changes.now turns.1 c.requires.matrices turns.2 k kept run run_at m m_at c.args.form collection c_at) c.write_from.ensures.ok
+    subst (λ (t : List ℕ). OnOk c.write_from.result (g.O.Sink.written c.write_from.new.out ≡ appended (g.O.Sink.written c.args.out.now) t)) (text answer graph p n s.0 s.1 s.2 turns.0 made c.args.changes.now turns.1 c.requires.matrices turns.2 k kept run run_at m m_at c.args.setting.form collection c_at) c.write_from.ensures.ok
 
 pub returns-clause-err : goal.returns-clause-err
 returns-clause-err g c =
     let answer = g.U.Updater.answer in
-    let graph = c.args.graph.now in
-    let p = c.args.plan.now in
+    let graph = c.args.setting.graph.now in
+    let p = c.args.setting.plan.now in
     let n = c.args.n in
     let made = c.args.made.now in
     let k = c.args.kept.now in
@@ -169,13 +169,13 @@ returns-clause-err g c =
     let m_at : slice_get made run.collection ≡ Some m = matrix_here graph p (n + 1) made c.requires.matrices run.collection m lt c.index-made-run.is in
     let collection = c.index-as_slice-run.result in
     let c_at : slice_get p.collections run.collection ≡ Some collection = found c.as_slice-2.result.now p.collections run.collection collection c.as_slice-2.ensures (omega (arith, lt, ap (λ (cs : List CollectionPlan). length cs) c.as_slice-2.ensures)) c.index-as_slice-run.is in
-    subst (λ (t : List ℕ). OnErr c.write_from.result (GrewByFront (g.O.Sink.written c.args.out.now) (g.O.Sink.written c.write_from.new.out) t)) (text answer graph p n s.0 s.1 s.2 turns.0 made c.args.changes.now turns.1 c.requires.matrices turns.2 k kept run run_at m m_at c.args.form collection c_at) c.write_from.ensures.err
+    subst (λ (t : List ℕ). OnErr c.write_from.result (GrewByFront (g.O.Sink.written c.args.out.now) (g.O.Sink.written c.write_from.new.out) t)) (text answer graph p n s.0 s.1 s.2 turns.0 made c.args.changes.now turns.1 c.requires.matrices turns.2 k kept run run_at m m_at c.args.setting.form collection c_at) c.write_from.ensures.err
 
 pub returns-clause-calls : goal.returns-clause-calls
 returns-clause-calls g c =
     let answer = g.U.Updater.answer in
-    let graph = c.args.graph.now in
-    let p = c.args.plan.now in
+    let graph = c.args.setting.graph.now in
+    let p = c.args.setting.plan.now in
     let n = c.args.n in
     let made = c.args.made.now in
     let k = c.args.kept.now in

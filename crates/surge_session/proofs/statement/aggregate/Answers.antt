@@ -18,9 +18,9 @@ use Rattle.surge_session.proofs.statement.aggregate.Goals as goal
 
 pub views_between-views-requires-clause-within : goal.views_between-views-requires-clause-within
 views_between-views-requires-clause-within g c =
-    let p = c.args.plan.now in
+    let p = c.args.setting.plan.now in
     let s = c.args.state.now in
-    let graph = c.args.graph.now in
+    let graph = c.args.setting.graph.now in
     let place = c.args.place in
     let collection = c.in-Some.collection.now in
     let m = c.index-matrix.result.now in
@@ -30,9 +30,9 @@ views_between-views-requires-clause-within g c =
 
 pub write_groups-requires-clause-shown : goal.write_groups-requires-clause-shown
 write_groups-requires-clause-shown g c =
-    let p = c.args.plan.now in
+    let p = c.args.setting.plan.now in
     let s = c.args.state.now in
-    let graph = c.args.graph.now in
+    let graph = c.args.setting.graph.now in
     let place = c.args.place in
     let collection = c.in-Some.collection.now in
     let m = c.index-matrix.result.now in
@@ -46,27 +46,27 @@ write_groups-requires-clause-shown g c =
 
 pub write_groups-requires-clause-live : goal.write_groups-requires-clause-live
 write_groups-requires-clause-live g c =
-    let p = c.args.plan.now in
+    let p = c.args.setting.plan.now in
     let s = c.args.state.now in
     let place = c.args.place in
     let collection = c.in-Some.collection.now in
     let m = c.index-matrix.result.now in
     let at : slice_get p.collections place ≡ Some collection = found c.as_slice.result.now p.collections place collection c.as_slice.ensures c.in-Some.ensures.lookup.3.0 c.in-Some.ensures.lookup.1 in
     let m_at : slice_get s.made.items place ≡ Some m = found s.made.items s.made.items place m refl (omega (arith, c.requires.at.all, slice_get_within p.collections place collection at)) c.index-matrix.ensures in
-    live_size c.args.graph.now p c.args.n place s.made.items m c.requires.at m_at
+    live_size c.args.setting.graph.now p c.args.n place s.made.items m c.requires.at m_at
 
 pub write_groups-requires-clause-by : goal.write_groups-requires-clause-by
-write_groups-requires-clause-by g c = (columns_fit c.args.graph.now c.args.plan.now c.args.n (step.Aggregate c.args.place c.args.grouping.by c.args.grouping.sum) c.requires.fits c.requires.step).0
+write_groups-requires-clause-by g c = (columns_fit c.args.setting.graph.now c.args.setting.plan.now c.args.n (step.Aggregate c.args.place c.args.grouping.by c.args.grouping.sum) c.requires.fits c.requires.step).0
 
 pub write_groups-requires-clause-sum : goal.write_groups-requires-clause-sum
 write_groups-requires-clause-sum g c =
-    sum_column c.args.graph.now c.args.grouping.sum (columns_fit c.args.graph.now c.args.plan.now c.args.n (step.Aggregate c.args.place c.args.grouping.by c.args.grouping.sum) c.requires.fits c.requires.step).1
+    sum_column c.args.setting.graph.now c.args.grouping.sum (columns_fit c.args.setting.graph.now c.args.setting.plan.now c.args.n (step.Aggregate c.args.place c.args.grouping.by c.args.grouping.sum) c.requires.fits c.requires.step).1
 
 pub write_groups-requires-clause-all : goal.write_groups-requires-clause-all
 write_groups-requires-clause-all g c =
-    let p = c.args.plan.now in
+    let p = c.args.setting.plan.now in
     let s = c.args.state.now in
-    let graph = c.args.graph.now in
+    let graph = c.args.setting.graph.now in
     let place = c.args.place in
     let collection = c.in-Some.collection.now in
     let m = c.index-matrix.result.now in
@@ -79,9 +79,9 @@ write_groups-requires-clause-all g c =
 
 pub returns-in-Some-clause-ok : goal.returns-in-Some-clause-ok
 returns-in-Some-clause-ok g c =
-    let p = c.args.plan.now in
+    let p = c.args.setting.plan.now in
     let s = c.args.state.now in
-    let graph = c.args.graph.now in
+    let graph = c.args.setting.graph.now in
     let place = c.args.place in
     let collection = c.in-Some.collection.now in
     let m = c.index-matrix.result.now in
@@ -101,9 +101,9 @@ returns-in-Some-clause-ok g c =
 
 pub returns-in-Some-clause-err : goal.returns-in-Some-clause-err
 returns-in-Some-clause-err g c =
-    let p = c.args.plan.now in
+    let p = c.args.setting.plan.now in
     let s = c.args.state.now in
-    let graph = c.args.graph.now in
+    let graph = c.args.setting.graph.now in
     let place = c.args.place in
     let collection = c.in-Some.collection.now in
     let m = c.index-matrix.result.now in
@@ -123,6 +123,6 @@ returns-in-Some-clause-err g c =
 
 pub returns-in-None-clause-ok : goal.returns-in-None-clause-ok
 returns-in-None-clause-ok g c =
-    let p = c.args.plan.now in
-    nothing_written (g.O.Sink.written c.args.out.now) (groups_text c.args.graph.now p c.args.n c.args.place c.args.grouping.by c.args.grouping.sum)
-    (groups_with c.args.graph.now p c.args.n c.args.place c.args.grouping.by c.args.grouping.sum None (missing c.as_slice.result.now p.collections c.args.place c.as_slice.ensures c.in-None.ensures.lookup.3))
+    let p = c.args.setting.plan.now in
+    nothing_written (g.O.Sink.written c.args.out.now) (groups_text c.args.setting.graph.now p c.args.n c.args.place c.args.grouping.by c.args.grouping.sum)
+    (groups_with c.args.setting.graph.now p c.args.n c.args.place c.args.grouping.by c.args.grouping.sum None (missing c.as_slice.result.now p.collections c.args.place c.as_slice.ensures c.in-None.ensures.lookup.3))

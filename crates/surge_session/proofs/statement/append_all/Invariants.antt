@@ -11,10 +11,10 @@ use Rattle.surge_session.proofs.statement.append_all.Given as goal
 abbrev pub invariant-loop-i : goal.invariant-loop-i
 invariant-loop-i g l = record {
   count : length l.kept ≡ length l.fn.kept;
-  done : (j : ℕ) (k : Kept) → j < l.i → slice_get l.kept j ≡ Some k → IsKept g.U.Updater.answer l.graph l.plan (l.n + 1) l.made k;
-  left : (j : ℕ) (k : Kept) → l.i ≤ j → slice_get l.kept j ≡ Some k → IsKept g.U.Updater.answer l.graph l.plan l.n l.made k;
+  done : (j : ℕ) (k : Kept) → j < l.i → slice_get l.kept j ≡ Some k → IsKept g.U.Updater.answer l.setting.graph.now l.setting.plan.now (l.n + 1) l.added.made.now k;
+  left : (j : ℕ) (k : Kept) → l.i ≤ j → slice_get l.kept j ≡ Some k → IsKept g.U.Updater.answer l.setting.graph.now l.setting.plan.now l.n l.added.made.now k;
   places : places_of l.kept ≡ places_of l.fn.kept;
-  written : g.O.Sink.written l.out ≡ appended (g.O.Sink.written l.fn.out) (flat_map (kept_text g.U.Updater.answer l.form (graph_at l.graph l.plan (l.n + 1)) l.plan l.collection.name (slice_range l.collection.views l.first (length (made_at l.plan (l.n + 1) l.place))) l.place) (take l.i (places_of l.fn.kept)));
-  calls : g.U.Counted.calls l.updater ≤ g.U.Counted.calls l.fn.updater + sum_by (added_work g.U.Updater.answer l.graph l.plan l.n l.place) (take l.i (places_of l.fn.kept));
+  written : g.O.Sink.written l.out ≡ appended (g.O.Sink.written l.fn.out) (flat_map (kept_text g.U.Updater.answer l.setting.form (graph_at l.setting.graph.now l.setting.plan.now (l.n + 1)) l.setting.plan.now l.added.collection.now.name (slice_range l.added.collection.now.views l.added.first (length (made_at l.setting.plan.now (l.n + 1) l.added.place))) l.added.place) (take l.i (places_of l.fn.kept)));
+  calls : g.U.Counted.calls l.updater ≤ g.U.Counted.calls l.fn.updater + sum_by (added_work g.U.Updater.answer l.setting.graph.now l.setting.plan.now l.n l.added.place) (take l.i (places_of l.fn.kept));
   faults : g.O.Sink.faults l.fn.out ≤ g.O.Sink.faults l.out;
 }

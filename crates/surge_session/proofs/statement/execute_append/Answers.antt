@@ -18,22 +18,22 @@ use Rattle.surge_session.proofs.Texts.{found, append_with}
 use Rattle.surge_session.proofs.statement.execute_append.Goals as goal
 
 pub grow-requires-clause-views : goal.grow-requires-clause-views
-grow-requires-clause-views g c = λ other. views_more c.args.plan.now c.args.n other (step.Append c.args.place c.requires.step.0 c.args.count) c.requires.step.1
+grow-requires-clause-views g c = λ other. views_more c.args.setting.plan.now c.args.n other (step.Append c.args.place c.requires.step.0 c.args.count) c.requires.step.1
 
 pub grow-requires-clause-same : goal.grow-requires-clause-same
-grow-requires-clause-same g c = graph_passed c.args.graph.now c.args.plan.now c.args.n (step.Append c.args.place c.requires.step.0 c.args.count) c.requires.step.1 refl
+grow-requires-clause-same g c = graph_passed c.args.setting.graph.now c.args.setting.plan.now c.args.n (step.Append c.args.place c.requires.step.0 c.args.count) c.requires.step.1 refl
 
 pub append_all-requires-clause-collection : goal.append_all-requires-clause-collection
 append_all-requires-clause-collection g c =
-    let p = c.args.plan.now in
-    let fits = step_fits c.args.graph.now p c.args.n (step.Append c.args.place c.requires.step.0 c.args.count) c.requires.fits c.requires.step.1 in
+    let p = c.args.setting.plan.now in
+    let fits = step_fits c.args.setting.graph.now p c.args.n (step.Append c.args.place c.requires.step.0 c.args.count) c.requires.fits c.requires.step.1 in
     found c.as_slice.result.now p.collections c.args.place c.index-as_slice-place.result c.as_slice.ensures (omega (arith, fits.1, ap (λ (cs : List CollectionPlan). length cs) c.as_slice.ensures)) c.index-as_slice-place.is
 
 pub append_all-requires-clause-kept : goal.append_all-requires-clause-kept
 append_all-requires-clause-kept g c =
     let answer = g.U.Updater.answer in
-    let graph = c.args.graph.now in
-    let p = c.args.plan.now in
+    let graph = c.args.setting.graph.now in
+    let p = c.args.setting.plan.now in
     let n = c.args.n in
     subst (λ (made : List MatrixData). All (IsKept answer graph p n made) c.deref_mut.result.now) (sym c.deref.ensures.value)
     (subst (λ (kept : List Kept). All (IsKept answer graph p n c.grow.new.self.made.items) kept) (sym c.deref_mut.ensures.value) c.in-Ok.ensures.each)
@@ -41,8 +41,8 @@ append_all-requires-clause-kept g c =
 pub returns-in-Ok-clause-at : goal.returns-in-Ok-clause-at
 returns-in-Ok-clause-at g c =
     let answer = g.U.Updater.answer in
-    let graph = c.args.graph.now in
-    let p = c.args.plan.now in
+    let graph = c.args.setting.graph.now in
+    let p = c.args.setting.plan.now in
     let n = c.args.n in
     let made = c.grow.new.self.made.items in
     let old = c.grow.new.self.kept in
@@ -64,9 +64,9 @@ returns-in-Ok-clause-at g c =
 pub returns-in-Ok-clause-ok : goal.returns-in-Ok-clause-ok
 returns-in-Ok-clause-ok g c =
     let answer = g.U.Updater.answer in
-    let form = c.args.form in
-    let graph = c.args.graph.now in
-    let p = c.args.plan.now in
+    let form = c.args.setting.form in
+    let graph = c.args.setting.graph.now in
+    let p = c.args.setting.plan.now in
     let n = c.args.n in
     let place = c.args.place in
     let collection = c.index-as_slice-place.result in
@@ -83,9 +83,9 @@ returns-in-Ok-clause-ok g c =
 pub returns-in-Ok-clause-err : goal.returns-in-Ok-clause-err
 returns-in-Ok-clause-err g c =
     let answer = g.U.Updater.answer in
-    let form = c.args.form in
-    let graph = c.args.graph.now in
-    let p = c.args.plan.now in
+    let form = c.args.setting.form in
+    let graph = c.args.setting.graph.now in
+    let p = c.args.setting.plan.now in
     let n = c.args.n in
     let place = c.args.place in
     let collection = c.index-as_slice-place.result in

@@ -13,8 +13,8 @@ use Rattle.surge_session.proofs.statement.execute_run.Goals as goal
 
 pub run_first-requires-clause-matrix : goal.run_first-requires-clause-matrix
 run_first-requires-clause-matrix g c =
-    let graph = c.args.graph.now in
-    let p = c.args.plan.now in
+    let graph = c.args.setting.graph.now in
+    let p = c.args.setting.plan.now in
     let n = c.args.n in
     let place = c.args.place in
     let made = c.args.state.now.made.items in
@@ -28,8 +28,8 @@ run_first-requires-clause-matrix g c =
 
 pub write_from-requires-clause-live : goal.write_from-requires-clause-live
 write_from-requires-clause-live g c =
-    let graph = c.args.graph.now in
-    let p = c.args.plan.now in
+    let graph = c.args.setting.graph.now in
+    let p = c.args.setting.plan.now in
     let n = c.args.n in
     let place = c.args.place in
     let made = c.args.state.now.made.items in
@@ -43,8 +43,8 @@ write_from-requires-clause-live g c =
 
 pub write_from-requires-clause-within : goal.write_from-requires-clause-within
 write_from-requires-clause-within g c =
-    let graph = c.args.graph.now in
-    let p = c.args.plan.now in
+    let graph = c.args.setting.graph.now in
+    let p = c.args.setting.plan.now in
     let n = c.args.n in
     let place = c.args.place in
     let made = c.args.state.now.made.items in
@@ -60,8 +60,8 @@ write_from-requires-clause-within g c =
 
 pub write_from-requires-clause-shows : goal.write_from-requires-clause-shows
 write_from-requires-clause-shows g c =
-    let graph = c.args.graph.now in
-    let p = c.args.plan.now in
+    let graph = c.args.setting.graph.now in
+    let p = c.args.setting.plan.now in
     let n = c.args.n in
     let place = c.args.place in
     let made = c.args.state.now.made.items in
@@ -77,8 +77,8 @@ write_from-requires-clause-shows g c =
 
 pub returns-in-Err-write_from-clause-err : goal.returns-in-Err-write_from-clause-err
 returns-in-Err-write_from-clause-err g c =
-    let graph = c.args.graph.now in
-    let p = c.args.plan.now in
+    let graph = c.args.setting.graph.now in
+    let p = c.args.setting.plan.now in
     let n = c.args.n in
     let place = c.args.place in
     let made = c.args.state.now.made.items in
@@ -90,23 +90,23 @@ returns-in-Err-write_from-clause-err g c =
     let m_at : slice_get made run.collection ≡ Some m = matrix_here graph p n made c.requires.at.matrices run.collection m lt c.index-matrix.ensures in
     let collection = c.index-as_slice-run.result in
     let c_at : slice_get p.collections run.collection ≡ Some collection = found c.as_slice-2.result.now p.collections run.collection collection c.as_slice-2.ensures (omega (arith, lt, ap (λ (cs : List CollectionPlan). length cs) c.as_slice-2.ensures)) c.index-as_slice-run.is in
-    subst (λ (t : List ℕ). GrewByFront (g.O.Sink.written c.args.out.now) (g.O.Sink.written c.write_from.new.out) t) (ran_text g.U.Updater.answer graph p n place run c.requires.step run_at made c.requires.at.matrices m m_at c.args.form collection c_at) c.in-Err-write_from.ensures.err
+    subst (λ (t : List ℕ). GrewByFront (g.O.Sink.written c.args.out.now) (g.O.Sink.written c.write_from.new.out) t) (ran_text g.U.Updater.answer graph p n place run c.requires.step run_at made c.requires.at.matrices m m_at c.args.setting.form collection c_at) c.in-Err-write_from.ensures.err
 
 pub keep-requires-clause-run : goal.keep-requires-clause-run
 keep-requires-clause-run g c =
-    let p = c.args.plan.now in
-    let fits = step_fits c.args.graph.now p c.args.n (step.Run c.args.place) c.requires.fits c.requires.step in
+    let p = c.args.setting.plan.now in
+    let fits = step_fits c.args.setting.graph.now p c.args.n (step.Run c.args.place) c.requires.fits c.requires.step in
     run_here p c.args.place c.as_slice.result.now c.index-as_slice-place.result fits.1 c.as_slice.ensures c.index-as_slice-place.is
 
 pub keep-requires-clause-place : goal.keep-requires-clause-place
 keep-requires-clause-place g c =
-    let fits = step_fits c.args.graph.now c.args.plan.now c.args.n (step.Run c.args.place) c.requires.fits c.requires.step in
+    let fits = step_fits c.args.setting.graph.now c.args.setting.plan.now c.args.n (step.Run c.args.place) c.requires.fits c.requires.step in
     fits.0
 
 pub keep-requires-clause-unphased : goal.keep-requires-clause-unphased
 keep-requires-clause-unphased g c =
-    let graph = c.args.graph.now in
-    let p = c.args.plan.now in
+    let graph = c.args.setting.graph.now in
+    let p = c.args.setting.plan.now in
     let n = c.args.n in
     let place = c.args.place in
     let made = c.args.state.now.made.items in
@@ -120,8 +120,8 @@ keep-requires-clause-unphased g c =
 
 pub keep-requires-clause-matrix : goal.keep-requires-clause-matrix
 keep-requires-clause-matrix g c =
-    let graph = c.args.graph.now in
-    let p = c.args.plan.now in
+    let graph = c.args.setting.graph.now in
+    let p = c.args.setting.plan.now in
     let n = c.args.n in
     let place = c.args.place in
     let made = c.args.state.now.made.items in
@@ -135,8 +135,8 @@ keep-requires-clause-matrix g c =
 
 pub keep-requires-clause-has : goal.keep-requires-clause-has
 keep-requires-clause-has g c =
-    let graph = c.args.graph.now in
-    let p = c.args.plan.now in
+    let graph = c.args.setting.graph.now in
+    let p = c.args.setting.plan.now in
     let n = c.args.n in
     let place = c.args.place in
     let made = c.args.state.now.made.items in
@@ -152,8 +152,8 @@ keep-requires-clause-has g c =
 
 pub keep-requires-clause-order : goal.keep-requires-clause-order
 keep-requires-clause-order g c =
-    let graph = c.args.graph.now in
-    let p = c.args.plan.now in
+    let graph = c.args.setting.graph.now in
+    let p = c.args.setting.plan.now in
     let n = c.args.n in
     let place = c.args.place in
     let made = c.args.state.now.made.items in
@@ -167,8 +167,8 @@ keep-requires-clause-order g c =
 
 pub keep-requires-clause-count : goal.keep-requires-clause-count
 keep-requires-clause-count g c =
-    let graph = c.args.graph.now in
-    let p = c.args.plan.now in
+    let graph = c.args.setting.graph.now in
+    let p = c.args.setting.plan.now in
     let n = c.args.n in
     let place = c.args.place in
     let made = c.args.state.now.made.items in
@@ -182,8 +182,8 @@ keep-requires-clause-count g c =
 
 pub returns-in-Ok-keep-clause-ok : goal.returns-in-Ok-keep-clause-ok
 returns-in-Ok-keep-clause-ok g c =
-    let graph = c.args.graph.now in
-    let p = c.args.plan.now in
+    let graph = c.args.setting.graph.now in
+    let p = c.args.setting.plan.now in
     let n = c.args.n in
     let place = c.args.place in
     let made = c.args.state.now.made.items in
@@ -195,12 +195,12 @@ returns-in-Ok-keep-clause-ok g c =
     let m_at : slice_get made run.collection ≡ Some m = matrix_here graph p n made c.requires.at.matrices run.collection m lt c.index-matrix.ensures in
     let collection = c.index-as_slice-run.result in
     let c_at : slice_get p.collections run.collection ≡ Some collection = found c.as_slice-2.result.now p.collections run.collection collection c.as_slice-2.ensures (omega (arith, lt, ap (λ (cs : List CollectionPlan). length cs) c.as_slice-2.ensures)) c.index-as_slice-run.is in
-    c.in_default.ensures.ok ∙ ap (λ (t : List ℕ). appended (g.O.Sink.written c.args.out.now) t) (ran_text g.U.Updater.answer graph p n place run c.requires.step run_at made c.requires.at.matrices m m_at c.args.form collection c_at)
+    c.in_default.ensures.ok ∙ ap (λ (t : List ℕ). appended (g.O.Sink.written c.args.out.now) t) (ran_text g.U.Updater.answer graph p n place run c.requires.step run_at made c.requires.at.matrices m m_at c.args.setting.form collection c_at)
 
 pub returns-in-Ok-keep-clause-calls : goal.returns-in-Ok-keep-clause-calls
 returns-in-Ok-keep-clause-calls g c =
-    let graph = c.args.graph.now in
-    let p = c.args.plan.now in
+    let graph = c.args.setting.graph.now in
+    let p = c.args.setting.plan.now in
     let n = c.args.n in
     let place = c.args.place in
     let made = c.args.state.now.made.items in
@@ -216,8 +216,8 @@ returns-in-Ok-keep-clause-calls g c =
 -- the run was written, and finds no memory to be kept
 pub returns-in-Err-keep-clause-err : goal.returns-in-Err-keep-clause-err
 returns-in-Err-keep-clause-err g c =
-    let graph = c.args.graph.now in
-    let p = c.args.plan.now in
+    let graph = c.args.setting.graph.now in
+    let p = c.args.setting.plan.now in
     let n = c.args.n in
     let place = c.args.place in
     let made = c.args.state.now.made.items in
@@ -229,4 +229,4 @@ returns-in-Err-keep-clause-err g c =
     let m_at : slice_get made run.collection ≡ Some m = matrix_here graph p n made c.requires.at.matrices run.collection m lt c.index-matrix.ensures in
     let collection = c.index-as_slice-run.result in
     let c_at : slice_get p.collections run.collection ≡ Some collection = found c.as_slice-2.result.now p.collections run.collection collection c.as_slice-2.ensures (omega (arith, lt, ap (λ (cs : List CollectionPlan). length cs) c.as_slice-2.ensures)) c.index-as_slice-run.is in
-    whole_front (g.O.Sink.written c.args.out.now) (g.O.Sink.written c.write_from.new.out) _ (c.in_default.ensures.ok ∙ ap (λ (t : List ℕ). appended (g.O.Sink.written c.args.out.now) t) (ran_text g.U.Updater.answer graph p n place run c.requires.step run_at made c.requires.at.matrices m m_at c.args.form collection c_at))
+    whole_front (g.O.Sink.written c.args.out.now) (g.O.Sink.written c.write_from.new.out) _ (c.in_default.ensures.ok ∙ ap (λ (t : List ℕ). appended (g.O.Sink.written c.args.out.now) t) (ran_text g.U.Updater.answer graph p n place run c.requires.step run_at made c.requires.at.matrices m m_at c.args.setting.form collection c_at))

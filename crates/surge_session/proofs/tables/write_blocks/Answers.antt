@@ -44,12 +44,12 @@ write_block-requires-clause-shown g c =
 
 pub write_block-requires-clause-before : goal.write_block-requires-clause-before
 write_block-requires-clause-before g c =
-    before_fits g.U.Updater.answer (shown_graph c.args.graph.now c.args.matrix.now) c.args.run.now c.args.collection.now (take c.loop-i.i c.args.views.now) c.as_ref.result c.loop-i.before c.as_ref.ensures.value c.loop-i.invariant.before
+    before_fits g.U.Updater.answer (shown_graph c.args.ran.graph.now c.args.ran.matrix.now) c.args.ran.run.now c.args.ran.collection.now.name (take c.loop-i.i c.args.views.now) c.as_ref.result c.loop-i.before c.as_ref.ensures.value c.loop-i.invariant.before
 
 pub loop-i-preserved : goal.loop-i-preserved
 loop-i-preserved g c =
-    let graph = c.args.graph.now in
-    let f : ViewPlan → Shown = view_shown g.U.Updater.answer (shown_graph graph c.args.matrix.now) c.args.run.now c.args.collection.now in
+    let graph = c.args.ran.graph.now in
+    let f : ViewPlan → Shown = view_shown g.U.Updater.answer (shown_graph graph c.args.ran.matrix.now) c.args.ran.run.now c.args.ran.collection.now.name in
     let views = c.args.views.now in
     let i = c.loop-i.i in
     let item = c.index-views-i.result in
@@ -63,8 +63,8 @@ loop-i-preserved g c =
 
 pub returns-in-Err-clause-err : goal.returns-in-Err-clause-err
 returns-in-Err-clause-err g c =
-    let graph = c.args.graph.now in
-    let f : ViewPlan → Shown = view_shown g.U.Updater.answer (shown_graph graph c.args.matrix.now) c.args.run.now c.args.collection.now in
+    let graph = c.args.ran.graph.now in
+    let f : ViewPlan → Shown = view_shown g.U.Updater.answer (shown_graph graph c.args.ran.matrix.now) c.args.ran.run.now c.args.ran.collection.now.name in
     let views = c.args.views.now in
     let i = c.loop-i.i in
     let lt : i < length views = omega (arith, c.loop-i-test.true) in
@@ -73,7 +73,7 @@ returns-in-Err-clause-err g c =
 
 pub returns-clause-ok : goal.returns-clause-ok
 returns-clause-ok g c =
-    let graph = c.args.graph.now in
-    let f : ViewPlan → Shown = view_shown g.U.Updater.answer (shown_graph graph c.args.matrix.now) c.args.run.now c.args.collection.now in
+    let graph = c.args.ran.graph.now in
+    let f : ViewPlan → Shown = view_shown g.U.Updater.answer (shown_graph graph c.args.ran.matrix.now) c.args.ran.run.now c.args.ran.collection.now.name in
     let views = c.args.views.now in
     c.loop-i.invariant.written ∙ ap (λ (vs : List ViewPlan). appended (g.O.Sink.written c.args.out.now) (changes_text (blocks_behind graph None (map f vs)))) (take_all c.loop-i.i views (omega (arith, c.loop-i-test.false)))

@@ -11,9 +11,9 @@ use Rattle.surge_session.proofs.tables.write_from.Goals as goal
 
 pub write_tables-requires-clause-shown : goal.write_tables-requires-clause-shown
 write_tables-requires-clause-shown g c =
-    let m = c.args.matrix.now in
-    let w = shown_graph c.args.graph.now m in
-    let views = c.args.collection.now.views in
+    let m = c.args.ran.matrix.now in
+    let w = shown_graph c.args.ran.graph.now m in
+    let views = c.args.ran.collection.now.views in
     let first = c.args.first in
     let range : c.views_between-views.result.now ≡ drop first (take (length m.columns) views) =
     c.views_between-views.ensures ∙ ap (λ (vs : List ViewPlan). slice_range vs first c.views.result) c.as_slice.ensures ∙ ap (λ (k : ℕ). slice_range views first k) c.views.ensures.count ∙ part views first (length m.columns) c.requires.first in
@@ -21,9 +21,9 @@ write_tables-requires-clause-shown g c =
 
 pub returns-clause-err : goal.returns-clause-err
 returns-clause-err g c =
-    let m = c.args.matrix.now in
-    let w = shown_graph c.args.graph.now m in
-    let views = c.args.collection.now.views in
+    let m = c.args.ran.matrix.now in
+    let w = shown_graph c.args.ran.graph.now m in
+    let views = c.args.ran.collection.now.views in
     let range : c.views_between-views.result.now ≡ slice_range views c.args.first (length m.columns) =
     c.views_between-views.ensures ∙ ap (λ (vs : List ViewPlan). slice_range vs c.args.first c.views.result) c.as_slice.ensures ∙ ap (λ (k : ℕ). slice_range views c.args.first k) c.views.ensures.count in
-    subst (λ (vs : List ViewPlan). OnErr c.write_tables.result (GrewByFront (g.O.Sink.written c.args.out.now) (g.O.Sink.written c.write_tables.new.out) (tables_text g.U.Updater.answer c.args.form w c.args.run.now c.args.collection.now.name vs))) range c.write_tables.ensures.err
+    subst (λ (vs : List ViewPlan). OnErr c.write_tables.result (GrewByFront (g.O.Sink.written c.args.out.now) (g.O.Sink.written c.write_tables.new.out) (tables_text g.U.Updater.answer c.args.form w c.args.ran.run.now c.args.ran.collection.now.name vs))) range c.write_tables.ensures.err

@@ -41,4 +41,4 @@ write_view-requires-clause-shown g c =
 pub returns-in-Err-clause-err : goal.returns-in-Err-clause-err
 returns-in-Err-clause-err g c =
     let lt : c.loop-i.i < length c.args.views.now = omega (arith, c.loop-i-test.true) in
-    front_of_all (view_text g.U.Updater.answer c.args.form (shown_graph c.args.graph.now c.args.matrix.now) c.args.run.now c.args.collection.now) c.args.views.now c.loop-i.i c.index-views-i.result (g.O.Sink.written c.args.out.now) (g.O.Sink.written c.loop-i.out) (g.O.Sink.written c.write_view.new.out) lt c.index-views-i.is c.loop-i.invariant.written c.in-Err.ensures.err
+    front_of_all (view_text g.U.Updater.answer c.args.form (shown_graph c.args.ran.graph.now c.args.ran.matrix.now) c.args.ran.run.now c.args.ran.collection.now.name) c.args.views.now c.loop-i.i c.index-views-i.result (g.O.Sink.written c.args.out.now) (g.O.Sink.written c.loop-i.out) (g.O.Sink.written c.write_view.new.out) lt c.index-views-i.is c.loop-i.invariant.written c.in-Err.ensures.err

@@ -6,6 +6,6 @@ use Rattle.surge_session.proofs.tables.write_texts.Given as goal
 
 abbrev pub invariant-loop-i : goal.invariant-loop-i
 invariant-loop-i g l = record {
-  written : g.O.Sink.written l.out ≡ appended (g.O.Sink.written l.fn.out) (flat_map (view_text g.U.Updater.answer l.form (shown_graph l.graph l.matrix) l.run l.collection) (take l.i l.views));
+  written : g.O.Sink.written l.out ≡ appended (g.O.Sink.written l.fn.out) (flat_map (view_text g.U.Updater.answer l.form (shown_graph l.ran.graph.now l.ran.matrix.now) l.ran.run.now l.ran.collection.now.name) (take l.i l.views));
   faults : g.O.Sink.faults l.fn.out ≤ g.O.Sink.faults l.out;
 }

@@ -13,19 +13,19 @@ use Rattle.surge_session.proofs.view.write_view.Goals as goal
 
 pub write_table-requires : goal.write_table-requires
 write_table-requires g c =
-    let w = shown_graph c.args.graph.now c.args.matrix.now in
-    subst (λ (t : Table). IsTable c.args.graph.now t) (sym c.in-Ok.ensures.table) (is_table g.U.Updater.answer w c.args.run.now c.args.view.now.rule)
+    let w = shown_graph c.args.ran.graph.now c.args.ran.matrix.now in
+    subst (λ (t : Table). IsTable c.args.ran.graph.now t) (sym c.in-Ok.ensures.table) (is_table g.U.Updater.answer w c.args.ran.run.now c.args.view.now.rule)
 
 pub returns-clause-err : goal.returns-clause-err
 returns-clause-err g c =
-    let graph = c.args.graph.now in
-    let w = shown_graph graph c.args.matrix.now in
-    let run = c.args.run.now in
+    let graph = c.args.ran.graph.now in
+    let w = shown_graph graph c.args.ran.matrix.now in
+    let run = c.args.ran.run.now in
     let view = c.args.view.now in
     let form = c.args.form in
     let a = c.in-Ok.answered in
-    let head = head_text c.args.collection.now view.name (canonical_call run.call) in
-    let text : form_text form c.as_slice.result.now a.edges graph a.table ≡ view_text g.U.Updater.answer form w run c.args.collection.now view =
+    let head = head_text c.args.ran.collection.now.name view.name (canonical_call run.call) in
+    let text : form_text form c.as_slice.result.now a.edges graph a.table ≡ view_text g.U.Updater.answer form w run c.args.ran.collection.now.name view =
     ap (λ (h : List ℕ). form_text form h a.edges graph a.table) (c.as_slice.ensures.value ∙ c.in-Ok.ensures.head)
     ∙ ap (λ (k : ℕ). form_text form head k graph a.table) c.in-Ok.ensures.edges
     ∙ ap (λ (t : Table). form_text form head (length (live_edges w view.rule)) graph t) c.in-Ok.ensures.table in
