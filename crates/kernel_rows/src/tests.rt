@@ -1,6 +1,7 @@
 //! Small views, worked out by hand.
 
 mod chained;
+mod ended;
 mod plain;
 mod shared;
 mod steps;

@@ -33,7 +33,7 @@ use Rattle.round_kernel.specs.Histories.{IsHistory, AreStarts}
 use Rattle.change_lists.specs.ChangeLists.{HasNodes, HasChanges, is_changed}
 use Rattle.round_kernel.specs.Rounds.{old_view}
 use Rattle.round_kernel.specs.Frames.{IsFrame, count_in, lone_at, new_arcs, old_arcs, counted_at, marked_at}
-use Rattle.round_kernel.specs.Steps.{HasRounds, outcome_of}
+use Rattle.round_kernel.specs.Steps.{HasRounds, IsLastChange, outcome_of}
 use Rattle.arc_rows.specs.ListLaws.{clash}
 use Rattle.change_lists.specs.UnchangedLaws.{unchanged-at}
 use Rattle.round_kernel.proofs.Visiting.{count-none}
@@ -95,17 +95,16 @@ module _ (answer : Answer) (f : Frame) where
     pub old : r < f.limit → f.first ≡ false → lone answer f.program.now f.graph.now (arcs_in f.rows.now.by_head f.old.now) ((r - 1) + 1) ≡ lone answer f.program.now f.graph.now (arcs_in f.rows.now.by_head f.old.now) (r - 1)
     pub later : r < f.limit → 0 < r
 
-  module _ (frame : IsFrame answer f f.limit) (r : ℕ) (h : History) (rounds : HasRounds answer f r h) where
+  module _ (frame : IsFrame answer f f.limit) (r : ℕ) where
     old-still : (first : Bool) (k : ℕ) → HasChanges (count_in f) (lone_in answer f.program.now f.graph.now (old_view first f.rows.now.by_head f.old.now) k) (lone_in answer f.program.now f.graph.now (old_view first f.rows.now.by_head f.old.now) (k + 1)) []
         → first ≡ false → lone answer f.program.now f.graph.now (arcs_in f.rows.now.by_head f.old.now) (k + 1) ≡ lone answer f.program.now f.graph.now (arcs_in f.rows.now.by_head f.old.now) k
     old-still true k c e = absurd (clash true e refl)
     old-still false k c e = same-values (count_in f) (lone answer f.program.now f.graph.now (arcs_in f.rows.now.by_head f.old.now) k) (lone answer f.program.now f.graph.now (arcs_in f.rows.now.by_head f.old.now) (k + 1))
         (length-lone answer f.program.now f.graph.now (arcs_in f.rows.now.by_head f.old.now) k) (length-lone answer f.program.now f.graph.now (arcs_in f.rows.now.by_head f.old.now) (k + 1)) c
 
-    pub end-quiet : r ≤ f.limit → 0 < r → get_or f.history.now.changes (r - 1) [] ≡ [] → get_or h.changes (r - 1) [] ≡ [] → IsEnd r
+    pub end-quiet : r ≤ f.limit → 0 < r → get_or f.history.now.changes (r - 1) [] ≡ [] → lone_at answer f ((r - 1) + 1) ≡ lone_at answer f (r - 1) → IsEnd r
     end-quiet within later eo en = record {
-      new = λ low. same-values (count_in f) (lone_at answer f (r - 1)) (lone_at answer f ((r - 1) + 1)) (length-lone answer f.program.now f.graph.now (new_arcs f) (r - 1)) (length-lone answer f.program.now f.graph.now (new_arcs f) ((r - 1) + 1))
-          (subst (λ (cs : List Change). HasChanges (count_in f) (lone_at answer f (r - 1)) (lone_at answer f ((r - 1) + 1)) cs) en (rounds.changes (r - 1) (omega (arith, later))));
+      new = λ low. en;
       old = λ low one. old-still f.first (r - 1) (subst (λ (cs : List Change). HasChanges (count_in f) (lone_in answer f.program.now f.graph.now (old_arcs f) (r - 1)) (lone_in answer f.program.now f.graph.now (old_arcs f) ((r - 1) + 1)) cs) eo (frame.history.changes (r - 1) (omega (arith, later, within)))) one;
       later = λ low. later;
     }
@@ -120,9 +119,9 @@ module _ (answer : Answer) (f : Frame) where
       quiet-old : (k : ℕ) → r < f.limit → r ≤ k + 1 → f.first ≡ false → lone answer f.program.now f.graph.now (arcs_in f.rows.now.by_head f.old.now) (k + 1) ≡ lone answer f.program.now f.graph.now (arcs_in f.rows.now.by_head f.old.now) k
       quiet-old k less low one = again answer f.program.now f.graph.now (arcs_in f.rows.now.by_head f.old.now) (r - 1) k (end.old less one) (omega (arith, low))
 
-      pub run-history : (made : History) → ((k : ℕ) → get_or made.changes k [] ≡ get_or h.changes k []) → made.marks ≡ h.marks → IfSome made.starts (λ s. AreStarts f.program.now f.graph.now s.value)
+      pub run-history : (h : History) → HasRounds answer f r h → (made : History) → ((k : ℕ) → get_or made.changes k [] ≡ get_or h.changes k []) → made.marks ≡ h.marks → IfSome made.starts (λ s. AreStarts f.program.now f.graph.now s.value)
           → IsHistory answer f.program.now f.graph.now (Some (new_arcs f)) f.limit made
-      run-history made places marks are = record {
+      run-history h rounds made places marks are = record {
         changes = λ k low. subst (λ (cs : List Change). HasChanges (count_in f) (lone_at answer f k) (lone_at answer f (k + 1)) cs) (sym (places k)) (elim (cases_lt k r) [
           | inl less ↦ rounds.changes k less
           | inr most ↦ subst (λ (cs : List Change). HasChanges (count_in f) (lone_at answer f k) (lone_at answer f (k + 1)) cs) (sym (get_or-eq_default h.changes [] (omega (arith, most, rounds.size)))) (no-changes (count_in f) (lone_at answer f k) (lone_at answer f (k + 1)) (quiet-new k (omega arith) (omega arith)))
@@ -135,6 +134,16 @@ module _ (answer : Answer) (f : Frame) where
           })
         ]);
         starts = are;
+      }
+
+      pub run-last : (last : ℕ) → IsLastChange answer f r last → IsLastChange answer f f.limit last
+      run-last last u = record {
+        within = omega (arith, u.within, within);
+        moved = u.moved;
+        still = λ k low high. elim (cases_lt k r) [
+          | inl less ↦ u.still k low less
+          | inr most ↦ quiet-new k (omega (arith, most, high)) (omega (arith, most))
+        ];
       }
 
       work-from : (n : ℕ) → r < f.limit → work answer f.program.now f.graph.now (new_arcs f) (old_arcs f) (r + n) ≡ work answer f.program.now f.graph.now (new_arcs f) (old_arcs f) r
@@ -172,33 +181,48 @@ module _ (answer : Answer) (f : Frame) where
 
 -- ---- the outcome
 
-module _ (answer : Answer) (p : Program) (graph : GraphData) (arcs : List Arc) (h : History) (n : ℕ) (history : IsHistory answer p graph (Some arcs) n h) (few : length h.changes ≤ n) (last : 0 < length h.changes → get_or h.changes (length h.changes - 1) [] ≢ []) where
-  last-changes : (k : ℕ) → k + 1 ≡ length h.changes → lone answer p graph arcs (k + 1) ≢ lone answer p graph arcs k
+-- given the last round of these with other values than the one before it
+module _ (answer : Answer) (p : Program) (graph : GraphData) (arcs : List Arc) (last n : ℕ) (few : last ≤ n) (moved : 0 < last → lone answer p graph arcs last ≢ lone answer p graph arcs (last - 1)) (still : last < n → lone answer p graph arcs (last + 1) ≡ lone answer p graph arcs last) where
+  last-changes : (k : ℕ) → k + 1 ≡ last → lone answer p graph arcs (k + 1) ≢ lone answer p graph arcs k
   last-changes k e =
-      let place : length h.changes - 1 ≡ k = omega (arith, e) in
-      changed-told (length graph.ids) (lone answer p graph arcs k) (lone answer p graph arcs (k + 1)) (get_or h.changes k []) (history.changes k (omega (arith, e, few)))
-      (λ nothing. last (omega (arith, e)) (ap (λ i. get_or h.changes i []) place ∙ nothing))
+      let place : last - 1 ≡ k = omega (arith, e) in
+      subst (λ (m : ℕ). lone answer p graph arcs m ≢ lone answer p graph arcs k) (sym e) (subst (λ (m : ℕ). lone answer p graph arcs last ≢ lone answer p graph arcs m) place (moved (omega (arith, e))))
 
-  outcome-by : (b : Bool) → (length h.changes == n) ≡ b → 1 ≤ n → (if b then outcomes.Unsettled else outcomes.Settled (length h.changes)) ≡ (answer_of answer p graph arcs (limits.Within n)).outcome
+  outcome-by : (b : Bool) → (last == n) ≡ b → 1 ≤ n → (if b then outcomes.Unsettled else outcomes.Settled last) ≡ (answer_of answer p graph arcs (limits.Within n)).outcome
   outcome-by true e some =
-      let all : length h.changes ≡ n = eqb-true (length h.changes) n e in
+      let all : last ≡ n = eqb-true last n e in
       let back : (n - 1) + 1 ≡ n = omega (arith, some) in
       sym (ap (λ (k : ℕ). (answer_of answer p graph arcs (limits.Within k)).outcome) (sym back) ∙ ap (λ (l : Lone). l.outcome) (unsettled-last answer p graph arcs (n - 1) (last-changes (n - 1) (omega (arith, some, all)))))
   outcome-by false e some =
-      let less : length h.changes < n = below n (length h.changes) few e in
-      let m = length h.changes in
-      let settled : lone answer p graph arcs (m + 1) ≡ lone answer p graph arcs m = same-values (length graph.ids) (lone answer p graph arcs m) (lone answer p graph arcs (m + 1)) (length-lone answer p graph arcs m) (length-lone answer p graph arcs (m + 1))
-      (subst (λ (cs : List Change). HasChanges (length graph.ids) (lone answer p graph arcs m) (lone answer p graph arcs (m + 1)) cs) (get_or-eq_default h.changes [] (omega arith)) (history.changes m less)) in
-      sym (ap (λ (l : Lone). l.outcome) (settled-last answer p graph arcs m n less settled last-changes)) where
+      let less : last < n = below n last few e in
+      sym (ap (λ (l : Lone). l.outcome) (settled-last answer p graph arcs last n less (still less) last-changes)) where
         below : (n m : ℕ) → m ≤ n → (m == n) ≡ false → m < n
         below n m high off = elim (cases_lt m n) [
           | inl less ↦ less
           | inr most ↦ let same : m ≡ n = omega (arith, high, most) in absurd (clash (m == n) off (eq-eqb m n same))
         ]
 
-  pub outcome-is : (rounds : Rounds) → number_of rounds ≡ n → 1 ≤ n → outcome_of (length h.changes) rounds ≡ (answer_of answer p graph arcs rounds).outcome
+  pub outcome-is : (rounds : Rounds) → number_of rounds ≡ n → 1 ≤ n → outcome_of last rounds ≡ (answer_of answer p graph arcs rounds).outcome
   outcome-is (limits.For m) e some = refl
   outcome-is (limits.Within m) e some =
-      ap (λ (k : ℕ). if length h.changes == k then outcomes.Unsettled else outcomes.Settled (length h.changes)) e
-      ∙ outcome-by (length h.changes == n) refl some
+      ap (λ (k : ℕ). if last == k then outcomes.Unsettled else outcomes.Settled last) e
+      ∙ outcome-by (last == n) refl some
       ∙ ap (λ (k : ℕ). (answer_of answer p graph arcs (limits.Within k)).outcome) (sym e)
+
+-- given a history that ends in a change
+module _ (answer : Answer) (p : Program) (graph : GraphData) (arcs : List Arc) (h : History) (n : ℕ) (history : IsHistory answer p graph (Some arcs) n h) (few : length h.changes ≤ n) (last : 0 < length h.changes → get_or h.changes (length h.changes - 1) [] ≢ []) where
+  told-moved : 0 < length h.changes → lone answer p graph arcs (length h.changes) ≢ lone answer p graph arcs (length h.changes - 1)
+  told-moved some =
+      let k = length h.changes - 1 in
+      let back : k + 1 ≡ length h.changes = omega (arith, some) in
+      subst (λ (m : ℕ). lone answer p graph arcs m ≢ lone answer p graph arcs k) back
+      (changed-told (length graph.ids) (lone answer p graph arcs k) (lone answer p graph arcs (k + 1)) (get_or h.changes k []) (history.changes k (omega (arith, some, few))) (last some))
+
+  told-still : length h.changes < n → lone answer p graph arcs (length h.changes + 1) ≡ lone answer p graph arcs (length h.changes)
+  told-still less =
+      let m = length h.changes in
+      same-values (length graph.ids) (lone answer p graph arcs m) (lone answer p graph arcs (m + 1)) (length-lone answer p graph arcs m) (length-lone answer p graph arcs (m + 1))
+      (subst (λ (cs : List Change). HasChanges (length graph.ids) (lone answer p graph arcs m) (lone answer p graph arcs (m + 1)) cs) (get_or-eq_default h.changes [] (omega arith)) (history.changes m less))
+
+  pub outcome-told : (rounds : Rounds) → number_of rounds ≡ n → 1 ≤ n → outcome_of (length h.changes) rounds ≡ (answer_of answer p graph arcs rounds).outcome
+  outcome-told rounds e some = outcome-is answer p graph arcs (length h.changes) n few told-moved told-still rounds e some

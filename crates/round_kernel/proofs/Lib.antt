@@ -1,6 +1,7 @@
 pub mod Stepping
 pub mod Kept
 pub mod Growing
+pub mod Logging
 pub mod Filled
 pub mod Turning
 pub mod KeptRounds

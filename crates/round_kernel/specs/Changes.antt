@@ -8,6 +8,7 @@ use Rattle.change_lists.specs.ChangeLists.{HasNodes, HasChanges}
 use Rattle.round_kernel.specs.declared.frame.Frame.{Frame}
 use Rattle.round_kernel.specs.declared.round.Stage.{Stage}
 use Rattle.round_kernel.specs.declared.state.State.{State}
+use Rattle.round_kernel.specs.declared.log.Log.{Log}
 use Rattle.round_kernel.specs.declared.made.Made.{Made}
 use Rattle.round_kernel.specs.Frames.{count_in, lone_at, marked_at, touched_at, was_touched_at, AreKept, AreStirred, IsFrame, StandAt}
 use Rattle.round_kernel.specs.Lookups.{StandLookups}
@@ -30,6 +31,10 @@ made_marks made = shared_or (option_map rc_value made.same_marks) made.marks
 
 abbrev pub made_changes : Made → List Change
 made_changes made = shared_or (option_map rc_value made.same_changes) made.changes
+
+-- what changed from the last round, where a log keeps no history
+abbrev pub passed_changes : Log → List Change
+passed_changes log = shared_or (option_map rc_value log.same) log.own
 
 -- what a round gives: the nodes with a mark in it, what changes to the next one, and where few touched nodes do, what may have to be told
 pub record HasMade (answer : Answer) (f : Frame) (r : ℕ) (made : Made) : Type 0 where

@@ -11,6 +11,7 @@ use Rattle.arc_rows.specs.Views.{arcs_in, TellsAll}
 use Rattle.round_kernel.specs.declared.kernel.Kernel.{Kernel}
 use Rattle.round_kernel.specs.declared.plan.Behind.{Behind}
 use Rattle.round_kernel.specs.declared.plan.Plan.{Plan}
+use Rattle.round_kernel.specs.declared.ended.Ended.{Ended}
 use Rattle.round_kernel.specs.declared.step.Stepped.{Stepped}
 use Rattle.round_kernel.specs.Histories.{IsHistory}
 use Rattle.round_kernel.specs.Kernels.{IsKernel}
@@ -40,6 +41,20 @@ pub record IsFirst (answer : Answer) (plan : Plan) (arcs : List Arc) (s : Steppe
 -- and of one behind a view with those of `old`
 pub record IsNext (answer : Answer) (plan : Plan) (old new : List Arc) (s : Stepped) : Type 0 where
   pub history : IsHistory answer plan.program.now plan.graph.now (Some new) (number_of plan.rounds) s.history
+  pub outcome : s.outcome ≡ (answer_of answer plan.program.now plan.graph.now new plan.rounds).outcome
+  pub change : s.change ≡ changes_from 0 (lone answer plan.program.now plan.graph.now old (number_of plan.rounds)) (lone answer plan.program.now plan.graph.now new (number_of plan.rounds))
+  pub work_is : s.work ≡ work answer plan.program.now plan.graph.now new (Some old) (number_of plan.rounds)
+
+-- ---- where no view comes behind
+
+-- the same of a view that none stands before and none comes behind: all but the history
+pub record IsOnly (answer : Answer) (plan : Plan) (arcs : List Arc) (s : Ended) : Type 0 where
+  pub outcome : s.outcome ≡ (answer_of answer plan.program.now plan.graph.now arcs plan.rounds).outcome
+  pub change : s.change ≡ all_from 0 (lone answer plan.program.now plan.graph.now arcs (number_of plan.rounds))
+  pub work_is : s.work ≡ work answer plan.program.now plan.graph.now arcs None (number_of plan.rounds)
+
+-- and of one behind a view with those of `old`
+pub record IsLast (answer : Answer) (plan : Plan) (old new : List Arc) (s : Ended) : Type 0 where
   pub outcome : s.outcome ≡ (answer_of answer plan.program.now plan.graph.now new plan.rounds).outcome
   pub change : s.change ≡ changes_from 0 (lone answer plan.program.now plan.graph.now old (number_of plan.rounds)) (lone answer plan.program.now plan.graph.now new (number_of plan.rounds))
   pub work_is : s.work ≡ work answer plan.program.now plan.graph.now new (Some old) (number_of plan.rounds)

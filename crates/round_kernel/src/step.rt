@@ -1,21 +1,22 @@
 //! The step from a view to the next.
 
-ghost use Rattle.std.specs.Prelude.{◌≡◌, ◌≢◌, ◌<◌, ◌≤◌, ◌+◌, ◌-◌, ◌++◌, ◌∷◌, [], ℕ, true, false, length, get_or, option_map, IfOk, OnOk, IsTrue, IsFalse};
-ghost use Rattle.std.specs.Rc.{rc_value};
+ghost use Rattle.std.specs.Prelude.{◌≡◌, ◌<◌, ◌≤◌, ◌+◌, ◌-◌, [], true, false, length, get_or, IfOk, OnOk, IsTrue};
 ghost use Rattle.vertex_lang.specs.Lone.{number_of};
 ghost use Rattle.lone_work.specs.Work.{work};
 ghost use Rattle.arc_rows.specs.Counts.{AreBoth};
 ghost use Rattle.arc_rows.specs.Listings.{IsListed};
 ghost use Rattle.arc_rows.specs.RowLists.{AreAlong};
 ghost use Rattle.arc_rows.specs.Views.{arcs_in};
-ghost use Rattle.round_kernel.specs.Changes.{made_changes, made_marks, shared_or, StandsBefore};
+ghost use Rattle.round_kernel.specs.Changes.{passed_changes, StandsBefore};
 ghost use Rattle.round_kernel.specs.Frames.{IsFrame, new_arcs, old_arcs, count_in};
 ghost use Rattle.round_kernel.specs.Kernels.{IsKernel};
 ghost use Rattle.round_kernel.specs.Plans.{IsBehind, IsFirst, IsNext, MayRun};
-ghost use Rattle.round_kernel.specs.Steps.{HasRounds, IsRun, outcome_of};
+ghost use Rattle.round_kernel.specs.Steps.{IsFirstLogged, IsLog, IsNextLogged, IsRun, outcome_of};
 
+use crate::ended::Ended;
 use crate::frame::{Frame, Lists};
 use crate::kernel::Kernel;
+use crate::log::{Log, trim};
 use crate::lookups::Lookups;
 use crate::made::Made;
 use crate::plan::{Behind, Plan};
@@ -25,17 +26,13 @@ use crate::source::listed_in;
 use crate::spare::{Spare, kept_of};
 use crate::state::State;
 use arc_rows::{CachedArcs, Degrees, Listed, TwoViews};
-use change_lists::{ChainedLists, Change, History, all_changes, changes_between};
+use change_lists::{Change, History, all_changes, changes_between};
 use graph_model::Graph;
 use std::alloc::Global;
 use std::mem;
-use std::rc::Rc;
 use surge_outside::{List, NoMemory};
 use value_codes::Kept;
 use vertex_lang::{Outcome, Rounds, Updater, arcs_of, names_outdeg};
-
-// How many items a short list has at most.
-const MOST_SHORT: usize = 1_000;
 
 /// What a step gives.
 #[derive(Debug, Drop)]
@@ -68,11 +65,8 @@ impl Kernel {
         ensures step { IfOk result (IsFirst U.answer plan.entry (arcs_in self.old.rows.by_head edges.now)) }
         ensures calls { IfOk result (λ s. U.calls updater.new ≡ U.calls updater.old + s.work) }
     {
-        if are_few(plan.graph, count) {
-            let mut chosen = self.within(alloc, plan.graph, edges, edges)?;
-            return first_step(alloc, plan, &mut chosen, edges, updater);
-        }
-        first_step(alloc, plan, self, edges, updater)
+        let logged = self.first_logged(alloc, plan, edges, count, true, updater)?;
+        Ok(logged.stepped())
     }
 
     /// Steps a view behind another one, where so many edges are in one of the two or in both. Where they are less than half of those of
@@ -94,14 +88,90 @@ impl Kernel {
         ensures step { IfOk result (IsNext U.answer plan.entry (arcs_in self.old.rows.by_head behind.entry.old.now) (arcs_in self.old.rows.by_head behind.entry.new.now)) }
         ensures calls { IfOk result (λ s. U.calls updater.new ≡ U.calls updater.old + s.work) }
     {
+        let logged = self.next_logged(alloc, plan, behind, count, true, updater)?;
+        Ok(logged.stepped())
+    }
+
+    // Steps a view that none stands before; where it is asked for, a history is kept.
+    pub(crate) fn first_logged<U: Updater>(
+        &mut self,
+        alloc: Global,
+        plan: Plan<'_>,
+        edges: &[bool],
+        count: u64,
+        keeps: bool,
+        updater: &mut U,
+    ) -> Result<Logged, NoMemory>
+        requires plan { MayRun plan self.old }
+        requires edges { length edges.now ≡ length plan.graph.now.ends }
+        ensures kernel { OnOk result (IsKernel plan.entry.graph.now self.new) }
+        ensures rows { self.new.rows ≡ self.old.rows }
+        ensures step { IfOk result (IsFirstLogged U.answer plan.entry (arcs_in self.old.rows.by_head edges.now) keeps) }
+        ensures calls { IfOk result (λ s. U.calls updater.new ≡ U.calls updater.old + s.ended.work) }
+    {
+        if are_few(plan.graph, count) {
+            let mut chosen = self.within(alloc, plan.graph, edges, edges)?;
+            return first_step(alloc, plan, &mut chosen, edges, keeps, updater);
+        }
+        first_step(alloc, plan, self, edges, keeps, updater)
+    }
+
+    // Steps a view behind another one; where it is asked for, a history is kept.
+    pub(crate) fn next_logged<U: Updater>(
+        &mut self,
+        alloc: Global,
+        plan: Plan<'_>,
+        behind: Behind<'_>,
+        count: u64,
+        keeps: bool,
+        updater: &mut U,
+    ) -> Result<Logged, NoMemory>
+        requires plan { MayRun plan self.old }
+        requires along { AreAlong plan.program.now.along plan.graph.now self.old.rows }
+        requires behind { IsBehind U.answer plan self.old behind }
+        ensures kernel { OnOk result (IsKernel plan.entry.graph.now self.new) }
+        ensures rows { self.new.rows ≡ self.old.rows }
+        ensures step { IfOk result (IsNextLogged U.answer plan.entry (arcs_in self.old.rows.by_head behind.entry.old.now) (arcs_in self.old.rows.by_head behind.entry.new.now) keeps) }
+        ensures calls { IfOk result (λ s. U.calls updater.new ≡ U.calls updater.old + s.ended.work) }
+    {
         if behind.turned.is_empty() {
             return repeated(alloc, plan, self, behind, updater);
         }
         if are_few(plan.graph, count) {
             let mut chosen = self.within(alloc, plan.graph, behind.old, behind.new)?;
-            return next_step(alloc, plan, &mut chosen, behind, updater);
+            return next_step(alloc, plan, &mut chosen, behind, keeps, updater);
         }
-        next_step(alloc, plan, self, behind, updater)
+        next_step(alloc, plan, self, behind, keeps, updater)
+    }
+}
+
+/// What a step gives, with the history of the view where one is kept.
+#[derive(Drop)]
+pub(crate) struct Logged {
+    pub(crate) history: History,
+    pub(crate) ended: Ended,
+}
+
+impl Logged {
+    // The same in one.
+    fn stepped(self) -> Stepped
+        ensures history { result.history ≡ self.history }
+        ensures outcome { result.outcome ≡ self.ended.outcome }
+        ensures change { result.change ≡ self.ended.change }
+        ensures work { result.work ≡ self.ended.work }
+    {
+        let Logged { history, ended } = self;
+        let Ended {
+            outcome,
+            change,
+            work,
+        } = ended;
+        Stepped {
+            history,
+            outcome,
+            change,
+            work,
+        }
     }
 }
 
@@ -112,19 +182,20 @@ fn are_few(graph: &Graph, count: u64) -> bool {
 }
 
 // Steps a view that none stands before, over all arcs of the kernel.
-fn first_step<U: Updater>(
+fn first_step<'a, U: Updater>(
     alloc: Global,
-    plan: Plan<'_>,
+    plan: Plan<'a>,
     kernel: &mut Kernel,
-    edges: &[bool],
+    edges: &'a [bool],
+    keeps: bool,
     updater: &mut U,
-) -> Result<Stepped, NoMemory>
+) -> Result<Logged, NoMemory>
     requires plan { MayRun plan kernel.old }
     requires edges { length edges.now ≡ length plan.graph.now.ends }
     ensures kernel { OnOk result (IsKernel plan.entry.graph.now kernel.new) }
     ensures rows { kernel.new.rows ≡ kernel.old.rows }
-    ensures step { IfOk result (IsFirst U.answer plan.entry (arcs_in kernel.old.rows.by_head edges.now)) }
-    ensures calls { IfOk result (λ s. U.calls updater.new ≡ U.calls updater.old + s.work) }
+    ensures step { IfOk result (IsFirstLogged U.answer plan.entry (arcs_in kernel.old.rows.by_head edges.now) keeps) }
+    ensures calls { IfOk result (λ s. U.calls updater.new ≡ U.calls updater.old + s.ended.work) }
 {
     let Plan {
         program,
@@ -152,33 +223,37 @@ fn first_step<U: Updater>(
         limit: limit_of(rounds),
     };
     let counted = degrees.kept(alloc, by_degree)?;
-    let run = run_rounds(alloc, frame, degrees, Listed::Nothing, kept, updater)?;
+    let run = run_rounds(alloc, frame, degrees, Listed::Nothing, kept, keeps, updater)?;
     let change = all_changes(alloc, &run.lists.new_now)?;
     kernel.spare = Spare::of(run.kept, by_degree, run.lists.degrees());
     kernel.cached = CachedArcs::of(alloc, edges, None, run.listed, counted);
-    Ok(Stepped {
-        outcome: outcome(&run.history, rounds),
-        history: run.history,
+    let ended = Ended {
+        outcome: outcome(run.last, rounds),
         change,
         work: run.work,
+    };
+    Ok(Logged {
+        history: run.history,
+        ended,
     })
 }
 
 // Steps a view behind another one, over all arcs of the kernel.
-fn next_step<U: Updater>(
+fn next_step<'a, U: Updater>(
     alloc: Global,
-    plan: Plan<'_>,
+    plan: Plan<'a>,
     kernel: &mut Kernel,
-    behind: Behind<'_>,
+    behind: Behind<'a>,
+    keeps: bool,
     updater: &mut U,
-) -> Result<Stepped, NoMemory>
+) -> Result<Logged, NoMemory>
     requires plan { MayRun plan kernel.old }
     requires along { AreAlong plan.program.now.along plan.graph.now kernel.old.rows }
     requires behind { IsBehind U.answer plan kernel.old behind }
     ensures kernel { OnOk result (IsKernel plan.entry.graph.now kernel.new) }
     ensures rows { kernel.new.rows ≡ kernel.old.rows }
-    ensures step { IfOk result (IsNext U.answer plan.entry (arcs_in kernel.old.rows.by_head behind.entry.old.now) (arcs_in kernel.old.rows.by_head behind.entry.new.now)) }
-    ensures calls { IfOk result (λ s. U.calls updater.new ≡ U.calls updater.old + s.work) }
+    ensures step { IfOk result (IsNextLogged U.answer plan.entry (arcs_in kernel.old.rows.by_head behind.entry.old.now) (arcs_in kernel.old.rows.by_head behind.entry.new.now) keeps) }
+    ensures calls { IfOk result (λ s. U.calls updater.new ≡ U.calls updater.old + s.ended.work) }
 {
     let Plan {
         program,
@@ -214,7 +289,7 @@ fn next_step<U: Updater>(
         limit: limit_of(rounds),
     };
     let counted = degrees.kept(alloc, by_degree)?;
-    let run = run_rounds(alloc, frame, degrees, listed, kept, updater)?;
+    let run = run_rounds(alloc, frame, degrees, listed, kept, keeps, updater)?;
     let change = changes_between(
         alloc,
         &run.lists.touched,
@@ -223,11 +298,14 @@ fn next_step<U: Updater>(
     )?;
     kernel.spare = Spare::of(run.kept, by_degree, run.lists.degrees());
     kernel.cached = CachedArcs::of(alloc, behind.new, flags, run.listed, counted);
-    Ok(Stepped {
-        outcome: outcome(&run.history, rounds),
-        history: run.history,
+    let ended = Ended {
+        outcome: outcome(run.last, rounds),
         change,
         work: run.work,
+    };
+    Ok(Logged {
+        history: run.history,
+        ended,
     })
 }
 
@@ -239,28 +317,29 @@ fn repeated<U: Updater>(
     kernel: &Kernel,
     behind: Behind<'_>,
     updater: &U,
-) -> Result<Stepped, NoMemory>
+) -> Result<Logged, NoMemory>
     requires plan { MayRun plan kernel.now }
     requires behind { IsBehind U.answer plan kernel.now behind }
     requires none { behind.turned.now ≡ [] }
-    ensures step { IfOk result (IsNext U.answer plan.entry (arcs_in kernel.now.rows.by_head behind.entry.old.now) (arcs_in kernel.now.rows.by_head behind.entry.new.now)) }
-    ensures work { IfOk result (λ s. s.work ≡ 0) }
+    ensures step { IfOk result (IsNextLogged U.answer plan.entry (arcs_in kernel.now.rows.by_head behind.entry.old.now) (arcs_in kernel.now.rows.by_head behind.entry.new.now) true) }
+    ensures work { IfOk result (λ s. s.ended.work ≡ 0) }
 {
     let mut history = behind.history.shared(alloc)?;
     history.changes.truncate(limit_of(plan.rounds) as usize);
     trim(&mut history.changes);
-    Ok(Stepped {
-        outcome: outcome(&history, plan.rounds),
-        history,
+    let ended = Ended {
+        outcome: outcome(changing(&history), plan.rounds),
         change: List::new(alloc),
         work: 0,
-    })
+    };
+    Ok(Logged { history, ended })
 }
 
 // What all rounds give.
 #[derive(Drop)]
 struct Run {
     history: History,
+    last: u32,
     lists: Lists,
     listed: Listed,
     kept: Vec<Kept>,
@@ -274,6 +353,7 @@ fn run_rounds<U: Updater>(
     degrees: Degrees,
     listed: Listed,
     kept: Vec<Kept>,
+    keeps: bool,
     updater: &mut U,
 ) -> Result<Run, NoMemory>
     requires frame { IsFrame U.answer frame frame.limit }
@@ -282,12 +362,12 @@ fn run_rounds<U: Updater>(
     requires listed { IsListed frame.graph.now frame.rows.now.by_head frame.new.now listed }
     requires kept { length kept.items ≡ count_in frame }
     ensures listed { IfOk result (λ run. IsListed frame.entry.graph.now frame.entry.rows.now.by_head frame.entry.new.now run.listed) }
-    ensures run { IfOk result (IsRun U.answer frame.entry) }
+    ensures run { IfOk result (IsRun U.answer frame.entry keeps) }
     ensures calls { IfOk result (λ run. U.calls updater.new ≡ U.calls updater.old + run.work) }
 {
     let lists = Lists::new(alloc, frame, degrees, updater)?;
     let lookups = Lookups::new(alloc, frame, &lists, listed, updater)?;
-    let mut history = History::beside(alloc, frame.history)?;
+    let mut log = Log::new(alloc, keeps, frame.history, frame.graph.node_count())?;
     let made = Made::new(alloc, frame.graph.node_count())?;
     let mut state = State {
         lists,
@@ -297,8 +377,8 @@ fn run_rounds<U: Updater>(
     };
     let mut work = 0;
     let mut round = 0;
-    while round < frame.limit && !is_quiet(frame.history, &history, round) {
-        work += run_one(alloc, frame, round, &mut history, &mut state, updater)?;
+    while round < frame.limit && !is_quiet(frame.history, &log, round) {
+        work += run_one(alloc, frame, round, &mut log, &mut state, updater)?;
         round += 1;
     }
     let State {
@@ -307,10 +387,18 @@ fn run_rounds<U: Updater>(
         lookups,
         made: _,
     } = state;
-    trim(&mut history.changes);
-    history.starts = Some(lists.starts.clone()?);
+    trim(&mut log.history.changes);
+    log.history.starts = Some(lists.starts.clone()?);
+    let Log {
+        keeps: _,
+        history,
+        same: _,
+        own: _,
+        last,
+    } = log;
     Ok(Run {
         history,
+        last,
         lists,
         listed: listed_in(lookups.source, frame, round, updater),
         kept,
@@ -318,13 +406,14 @@ fn run_rounds<U: Updater>(
     })
 }
 
-// Whether nothing changed in this round in either view.
-fn is_quiet(old: &History, new: &History, round: u32) -> bool
+// Whether nothing changed in the round before this one in either view.
+fn is_quiet(old: &History, log: &Log, round: u32) -> bool
     ensures first { IsTrue result → 0 < round }
     ensures old { IsTrue result → get_or old.now.changes (round - 1) [] ≡ [] }
-    ensures new { IsTrue result → get_or new.now.changes (round - 1) [] ≡ [] }
+    ensures kept { IsTrue result → log.now.keeps ≡ true → get_or log.now.history.changes (round - 1) [] ≡ [] }
+    ensures passed { IsTrue result → log.now.keeps ≡ false → passed_changes log.now ≡ [] }
 {
-    round > 0 && old.changes_after(round - 1).is_empty() && new.changes_after(round - 1).is_empty()
+    round > 0 && old.changes_after(round - 1).is_empty() && log.before(round).is_empty()
 }
 
 // Goes through one round. The answer is the number of counted nodes.
@@ -332,21 +421,23 @@ fn run_one<U: Updater>(
     alloc: Global,
     frame: Frame<'_>,
     round: u32,
-    history: &mut History,
+    log: &mut Log,
     state: &mut State,
     updater: &mut U,
 ) -> Result<u64, NoMemory>
     requires frame { IsFrame U.answer frame frame.limit }
     requires round { round < frame.limit }
-    requires history { HasRounds U.answer frame round history.old }
+    requires few { frame.limit ≤ 1_000_000 }
+    requires log { IsLog U.answer frame round log.old }
     requires state { StandsBefore U.answer frame round state.old }
-    ensures history { OnOk result (HasRounds U.answer frame.entry (round + 1) history.new) }
+    ensures keeps { log.new.keeps ≡ log.old.keeps }
+    ensures log { OnOk result (IsLog U.answer frame.entry (round + 1) log.new) }
     ensures state { OnOk result (StandsBefore U.answer frame.entry (round + 1) state.new) }
     ensures work { IfOk result (λ n. work U.answer frame.entry.program.now frame.entry.graph.now (new_arcs frame.entry) (old_arcs frame.entry) (round + 1) ≡ work U.answer frame.entry.program.now frame.entry.graph.now (new_arcs frame.entry) (old_arcs frame.entry) round + n) }
     ensures few { IfOk result (λ n. n ≤ 1_000_000) }
     ensures calls { IfOk result (λ n. U.calls updater.new ≡ U.calls updater.old + n) }
 {
-    let before = history.changes_before(round);
+    let before = log.before(round);
     let work = run_round(alloc, frame, round, state, updater)?;
     let State {
         lists,
@@ -358,89 +449,25 @@ fn run_one<U: Updater>(
     lookups.go_on(frame, round, lists, made, updater);
     let suspects = &lookups.suspects;
     in_node_order(frame, round, lists, suspects, made, updater)?;
-    add_round(alloc, history, round, made, frame.graph.node_count())?;
+    log.add_round(alloc, round, made, frame.graph.node_count())?;
     Ok(work)
 }
 
-// Adds what a round gave. The marks of round 0 are not kept.
-fn add_round(
-    alloc: Global,
-    history: &mut History,
-    round: u32,
-    made: &mut Made,
-    count: u32,
-) -> Result<(), NoMemory>
-    ensures changes { OnOk result (history.new.changes ≡ history.old.changes ++ made_changes made.old ∷ []) }
-    ensures first { OnOk result (round ≡ 0 → history.new.marks ≡ history.old.marks) }
-    ensures later { OnOk result (0 < round → history.new.marks ≡ history.old.marks ++ made_marks made.old ∷ []) }
-    ensures few { made.new.few ≡ made.old.few }
-    ensures stirred { made.new.stirred ≡ made.old.stirred }
-{
-    let same = made.same_changes.take();
-    add_list(alloc, &mut history.changes, same, &mut made.changes, count)?;
-    if round == 0 {
-        return Ok(());
-    }
-    let same = made.same_marks.take();
-    add_list(alloc, &mut history.marks, same, &mut made.marks, count)
-}
-
-// Adds a list of a round. One that is shared with the view before takes no memory. A long one, which uses more than half of the room
-// that it was given, is moved in, and another one with as much room is put in its place. Another one is copied: where it isn't short,
-// into memory of its own, so that the view behind may share it, and else to the other short ones.
-fn add_list<T: Copy + Drop>(
-    alloc: Global,
-    lists: &mut ChainedLists<T>,
-    same: Option<Rc<List<T>>>,
-    list: &mut List<T>,
-    count: u32,
-) -> Result<(), NoMemory>
-    ensures { OnOk result (lists.new ≡ lists.old ++ shared_or (option_map rc_value same) list.old ∷ []) }
-{
-    if let Some(same) = same {
-        return lists.push_shared(same);
-    }
-    if list.len() <= MOST_SHORT {
-        return lists.push(list.as_slice());
-    }
-    if list.len() <= count as usize / 2 {
-        return lists.push_copied(list.as_slice());
-    }
-    let none = List::from_vec(Vec::with_capacity(alloc, count as usize)?);
-    lists.push_owned(mem::replace(list, none))
-}
-
-// Takes away rounds at the end in which nothing changes.
-fn trim(changes: &mut ChainedLists<Change>)
-    ensures places { (k : ℕ) → get_or changes.new k [] ≡ get_or changes.old k [] }
-    ensures few { length changes.new ≤ length changes.old }
-    ensures last { 0 < length changes.new → get_or changes.new (length changes.new - 1) [] ≢ [] }
-{
-    let mut count = changes.len();
-    while is_still(changes, count) {
-        count -= 1;
-    }
-    changes.truncate(count);
-}
-
-// Whether nothing changes in the last of so many rounds.
-fn is_still(changes: &ChainedLists<Change>, count: usize) -> bool
-    ensures some { IsTrue result → 0 < count }
-    ensures still { IsTrue result → get_or changes.now (count - 1) [] ≡ [] }
-    ensures moves { IsFalse result → 0 < count → get_or changes.now (count - 1) [] ≢ [] }
-{
-    count > 0 && changes.at(count - 1).is_empty()
-}
-
-// The outcome of a run, given its history.
-fn outcome(history: &History, rounds: Rounds) -> Outcome
+// How many rounds a history has. Where it ends in a change, that is the last round with other values than the one before it.
+fn changing(history: &History) -> u32
     requires { length history.now.changes ≤ 1_000_000 }
-    ensures { result ≡ outcome_of (length history.now.changes) rounds }
+    ensures { result ≡ length history.now.changes }
+{
+    history.changes.len() as u32
+}
+
+// The outcome of a run, given the last round with other values than the one before it.
+fn outcome(last: u32, rounds: Rounds) -> Outcome
+    ensures { result ≡ outcome_of last rounds }
 {
     match rounds {
         Rounds::For(count) => Outcome::After(count),
         Rounds::Within(limit) => {
-            let last = history.changes.len() as u32;
             if last == limit {
                 Outcome::Unsettled
             } else {

@@ -17,7 +17,7 @@ fresh-stands task s e none unknown =
     record {
       few = omega (arith, ap (λ (ws : List ℕ). length ws) e);
       works = e ∙ sym (ap (λ (vs : List ℕ). works_of task vs) nothing);
-      history = subst (λ (vs : List ℕ). HistoryOf task (last_of vs) s.history) (sym nothing) (subst (λ (h : Option History). HistoryOf task None h) (sym none) tt);
+      history = λ left. subst (λ (vs : List ℕ). HistoryOf task (last_of vs) s.history) (sym nothing) (subst (λ (h : Option History). HistoryOf task None h) (sym none) tt);
       flags = subst (λ (o : Option (Vec Bool Global)). IfSome o (λ (kept : Vec Bool Global). FlagsOf task (last_stepped s) kept.items)) (sym unknown) tt;
       done = λ all. unknown;
     }

@@ -1,6 +1,6 @@
 -- A kept run, to whose collection views are added.
 use Rattle.std.proofs.Common.{◌≡◌, ◌∙◌, ◌+◌, ◌-◌, ◌*◌, ◌<◌, ◌≤◌, ℕ, List, ◌++◌, length, take, All, Some, None, slice_get, slice_range, Bool, true, refl, sym, ap, subst, arith}
-use Rattle.std.specs.Prelude.{if◌then◌else◌}
+use Rattle.std.specs.Prelude.{is_some, if◌then◌else◌}
 use Rattle.std.specs.List.{range_with_len, last_or}
 use Rattle.std.proofs.Math.Nat.{mul_comm}
 use Rattle.graph_model.specs.declared.number.ViewNo.{ViewNo}
@@ -26,7 +26,7 @@ use Rattle.surge_session.specs.RunWorks.{more_calls}
 use Rattle.surge_session.specs.State.{rules_of, ShowsLive, shown_graph, HasRunIn, order_in, IsKept, MatricesAt}
 use Rattle.surge_session.proofs.LiveFacts.{shown_is}
 use Rattle.surge_session.proofs.Places.{counted, columns_within, shows_taken}
-use Rattle.surge_session.proofs.Stating.{in_another_order, its_order, its_phases, has_here, below_first, count_first, columns_first, more_is, kept_more, cost_more, added_here}
+use Rattle.surge_session.proofs.Stating.{in_another_order, its_name, its_order, its_phases, has_here, below_first, count_first, columns_first, more_is, kept_more, cost_more, added_here}
 use Rattle.surge_session.proofs.Texts.{kept_here}
 
 -- a work that is counted by nodes and rounds
@@ -57,6 +57,9 @@ module _ (answer : Answer) (g : GraphData) (p : Plan) (n place number count : �
 
   pub few_before : length (order_in k.engine) ≤ first
   few_before = omega (arith, its_first, count_first answer g p n made k run kept run_at)
+
+  pub has_name : is_some run.keep ≡ true
+  has_name = its_name answer g p n made k run kept run_at
 
   pub in_no_phases : run.phases ≡ None
   in_no_phases = its_phases answer g p n made k run kept run_at

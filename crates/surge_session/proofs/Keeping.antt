@@ -231,6 +231,7 @@ grown_run answer g run m rules order e has =
         split = is.split;
       };
       finished = has.finished;
+      grows = has.grows;
       unphased = has.unphased;
     }
 

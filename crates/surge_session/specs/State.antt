@@ -59,10 +59,11 @@ pub record IsFor (answer : Answer) (g : GraphData) (run : RunPlan) (m : MatrixDa
   pub rounds : e.rounds ≡ run.rounds
   pub split : e.split ≡ run.split
 
--- the engine has run all of them
+-- the engine has run all of them; where the run is kept, more views may be added
 pub record HasRun (answer : Answer) (g : GraphData) (run : RunPlan) (m : MatrixData) (order : List ℕ) (e : Engine) : Type 0 where
   pub is : IsFor answer g run m order e
   pub finished : AreFinished e
+  pub grows : is_some run.keep ≡ true → e.grows ≡ true
   pub unphased : run.phases ≡ None
 
 -- an engine over versions has run all views of this order over a matrix

@@ -1,13 +1,15 @@
 //! A run on the views of a matrix.
 
-ghost use Rattle.std.specs.Prelude.{◌≡◌, ◌+◌, ◌-◌, ◌<◌, ◌≤◌, ◌++◌, true, false, length, All, IfOk, OnOk, Some, None};
+ghost use Rattle.std.specs.Prelude.{◌≡◌, ◌+◌, ◌-◌, ◌<◌, ◌≤◌, ◌++◌, ℕ, [], true, false, is_some, length, All, IfOk, OnOk, Some, None};
 ghost use Rattle.std.specs.List.{range_with_len, last_or};
 ghost use Rattle.graph_model.specs.GraphData.{AreDistinct};
 ghost use Rattle.view_matrix.specs.Matrices.{MatrixData, distance_of, place_of, IsColumn, IsView};
+ghost use Rattle.vertex_lang.specs.Expressions.{Answer};
 ghost use Rattle.vertex_lang.specs.Lone.{number_of};
 ghost use Rattle.view_order.specs.Greedy.{numbers};
 ghost use Rattle.tree_order.specs.Trees.{tree_walk, views_of};
 ghost use Rattle.surge_session.specs.Output.{begun_in, in_order, IsRun};
+ghost use Rattle.view_engine.specs.Engines.{IsEngine, Stands, works_in};
 ghost use Rattle.view_turns.specs.Turns.{done};
 ghost use Rattle.view_versions.specs.Engines.{most_works};
 ghost use Rattle.surge_session.specs.State.{HasRun, HasFollowed, HasRunIn, order_in};
@@ -152,6 +154,46 @@ fn run_versions<'g, U: Updater>(
     Ok(RunEngine::Versions(engine))
 }
 
+// An engine that shares work, on these views, none of which is stepped yet. Where the run isn't kept, no views are added later.
+fn plain_engine<'g>(
+    alloc: Global,
+    graph: &'g Graph,
+    run: &'g RunPlan,
+    matrix: &Matrix,
+    order: &[ViewNo],
+) -> Result<Engine<'g>, NoMemory>
+    requires run { IsRun graph.now run.now }
+    requires matrix { length matrix.now.live ≡ length graph.now.ends }
+    requires views { All (IsView matrix.now) order.now }
+    requires distinct { AreDistinct order.now }
+    requires few { length order.now ≤ 1_024 }
+    ensures engine { IfOk result IsEngine }
+    ensures stands { IfOk result (λ e. (answer : Answer) → Stands answer matrix.now e) }
+    ensures graph { IfOk result (λ e. e.graph.now ≡ graph.now) }
+    ensures program { IfOk result (λ e. e.program.now ≡ run.now.program) }
+    ensures rounds { IfOk result (λ e. e.rounds ≡ run.now.rounds) }
+    ensures split { IfOk result (λ e. e.split ≡ run.now.split) }
+    ensures order { IfOk result (λ e. e.order ≡ order.now) }
+    ensures works { IfOk result (λ e. (k : ℕ) → works_in e k ≡ []) }
+    ensures grows { IfOk result (λ e. is_some run.now.keep ≡ true → e.grows ≡ true) }
+    ensures fresh { IfOk result (λ e. e.spent ≡ false) }
+{
+    let mut engine = Engine::new(
+        alloc,
+        graph,
+        matrix,
+        &run.program,
+        order,
+        run.split,
+        run.rounds,
+    )?;
+    if run.keep.is_some() {
+        return Ok(engine);
+    }
+    engine.close();
+    Ok(engine)
+}
+
 // Runs them in segments that share work.
 fn run_plain<'g, U: Updater>(
     alloc: Global,
@@ -173,15 +215,7 @@ fn run_plain<'g, U: Updater>(
     ensures order { IfOk result (λ engine. order_in engine ≡ order.now) }
     ensures calls { IfOk result (λ engine. U.calls updater.new ≤ U.calls updater.old + first_calls U.answer graph.now run.now matrix.now engine) }
 {
-    let mut engine = Engine::new(
-        alloc,
-        graph,
-        matrix,
-        &run.program,
-        order,
-        run.split,
-        run.rounds,
-    )?;
+    let mut engine = plain_engine(alloc, graph, run, matrix, order)?;
     finish(alloc, &mut engine, matrix, turns, updater)?;
     engine.rest();
     Ok(RunEngine::Plain(engine))
@@ -250,6 +284,7 @@ fn more_shared<U: Updater>(
     updater: &mut U,
 ) -> Result<(), NoMemory>
     requires first { first ≤ length matrix.now.columns }
+    requires kept { is_some run.now.keep ≡ true }
     requires has { HasRun U.answer engine.old.graph.now run.now matrix.now (numbers engine.old.order) engine.old }
     requires below { All (λ view. view.0 < first) engine.old.order }
     requires count { length engine.old.order ≤ first }
@@ -301,6 +336,7 @@ pub(crate) fn run_more<U: Updater>(
     updater: &mut U,
 ) -> Result<(), NoMemory>
     requires first { first ≤ length matrix.now.columns }
+    requires kept { is_some run.now.keep ≡ true }
     requires has { HasRunIn U.answer setting.graph.now run.now matrix.now engine.old }
     requires below { All (λ view. view.0 < first) (order_in engine.old) }
     requires count { length (order_in engine.old) ≤ first }

@@ -1,8 +1,8 @@
 -- The next view of an order gets its segment.
-use Rattle.std.proofs.Common.{◌≡◌, ℕ, zero, suc, ◌+◌, ◌<◌, ◌≤◌, Bool, List, [], ◌∷◌, ◌++◌, length, map, take, get_or, slice_get, All, Some, refl, sym, ◌∙◌, ap, subst, arith, length-append, Vec}
+use Rattle.std.proofs.Common.{◌≡◌, ℕ, zero, suc, ◌+◌, ◌<◌, ◌≤◌, Bool, true, false, List, [], ◌∷◌, ◌++◌, length, map, take, get_or, slice_get, All, Some, refl, sym, ◌∙◌, ap, subst, arith, length-append, Vec, inr}
 use Rattle.std.specs.List.{sum_by}
 use Rattle.std.proofs.lemmas.List.Sums.{fold-append}
-use Rattle.std.proofs.lemmas.Option.{slice_get-get_or}
+use Rattle.std.proofs.lemmas.Option.{slice_get_within, slice_get-get_or}
 use Rattle.std.specs.Prelude.{IfSome}
 use Rattle.std.specs.declared.alloc.Global.{Global}
 use Rattle.graph_model.specs.declared.number.ViewNo.{ViewNo}
@@ -13,12 +13,12 @@ use Rattle.view_matrix.specs.Matrices.{MatrixData, IsView, edges_in}
 use Rattle.view_order.specs.Greedy.{numbers}
 use Rattle.result_tables.specs.Results.{ResultsData}
 use Rattle.view_segment.specs.declared.segment.Segment.{Segment}
-use Rattle.view_segment.specs.Segments.{last_of, IsFinished, SegmentStands, HistoryOf, FlagsOf, stepped}
+use Rattle.view_segment.specs.Segments.{last_of, IsFinished, KeepsHistory, SegmentStands, HistoryOf, FlagsOf, stepped}
 use Rattle.view_segment.specs.Tasks.{Task, works_of}
 use Rattle.view_engine.specs.declared.counting.Decision.{Decision}
 use Rattle.view_engine.specs.declared.engine.Engine.{Engine}
 use Rattle.view_engine.specs.Splits.{with_next, segments_of}
-use Rattle.view_engine.specs.Engines.{segments_in, task_of, views_in, last_views, KeepsLater, IsInOrder, HoldsView, IsSound, IsEngine, work_in}
+use Rattle.view_engine.specs.Engines.{segments_in, task_of, views_in, last_views, KeepsLater, KeepsLast, IsInOrder, HoldsView, IsSound, IsEngine, work_in}
 use Rattle.view_engine.specs.Assigning.{fresh, with_view, put, last_works, KnowsLast, IsDecided, AreReadyFor, SoFar, IsAssigned}
 use Rattle.view_engine.proofs.Putting.{all_cons, all_head, all_tail, views_put, count_put, stepped_put, size_put, all_put, works_put, work_put, next_put, order_put}
 
@@ -66,17 +66,41 @@ module _ (v : ViewNo) where
       ∙ ap (map (λ (u : ViewNo). u.0)) (take_front (length s.works) s.views (v ∷ []) few)
       ∙ sym (take_map (λ (u : ViewNo). u.0) (length s.works) s.views)
 
-  pub stands_more : (task : Task) (s : Segment) → SegmentStands task s → SegmentStands task (with_view s v)
-  stands_more task s is = record {
+  keeps_more : (task : Task) (s : Segment) → length s.works ≤ length s.views → KeepsHistory task s → KeepsHistory task (with_view s v)
+  keeps_more task s few keeps = subst (λ (l : List ℕ). HistoryOf task (last_of l) s.history) (sym (same_stepped s few)) keeps
+
+  stands_more : (task : Task) (s : Segment) → KeepsHistory task s → SegmentStands task s → SegmentStands task (with_view s v)
+  stands_more task s keeps is = record {
     few = omega (arith, is.few, length-append s.views (v ∷ []));
     works = is.works ∙ ap (works_of task) (sym (same_stepped s is.few));
-    history = subst (λ (l : List ℕ). HistoryOf task (last_of l) s.history) (sym (same_stepped s is.few)) is.history;
+    history = λ left. keeps_more task s is.few keeps;
     flags = subst (λ (l : List ℕ). IfSome s.flags (λ (kept : Vec Bool Global). FlagsOf task (last_of l) kept.items)) (sym (same_stepped s is.few)) is.flags;
     done = λ all. absurd (omega (arith, is.few, length-append s.views (v ∷ []), all));
   }
 
-  pub stands_fresh : (task : Task) → SegmentStands task (fresh v)
-  stands_fresh task = record { few = omega arith; works = refl; history = tt; flags = tt; done = λ all. refl }
+  stands_fresh : (task : Task) → SegmentStands task (fresh v)
+  stands_fresh task = record { few = omega arith; works = refl; history = λ left. tt; flags = tt; done = λ all. refl }
+
+  -- a view more at the end of the last segment, which keeps its history, or in one of its own
+  pub stands_put : (task : Task) (b : Bool) (ss : List Segment) → All (SegmentStands task) ss → KeepsLast task ss → All (SegmentStands task) (put b ss v)
+  stands_put task b [] each keeps = all_cons (SegmentStands task) (fresh v) [] (stands_fresh task) (λ k d low. absurd (omega arith))
+  stands_put task true (s ∷ []) each keeps =
+      all_cons (SegmentStands task) s (fresh v ∷ []) (all_head (SegmentStands task) s [] each) (all_cons (SegmentStands task) (fresh v) [] (stands_fresh task) (λ k d low. absurd (omega arith)))
+  stands_put task false (s ∷ []) each keeps = all_cons (SegmentStands task) (with_view s v) [] (stands_more task s keeps (all_head (SegmentStands task) s [] each)) (λ k d low. absurd (omega arith))
+  stands_put task b (s ∷ t ∷ ss) each keeps =
+      all_cons (SegmentStands task) s (put b (t ∷ ss) v) (all_head (SegmentStands task) s (t ∷ ss) each) (stands_put task b (t ∷ ss) (all_tail (SegmentStands task) s (t ∷ ss) each) keeps)
+
+  keeps_past : (task : Task) (s : Segment) (b : Bool) (t : Segment) (ss : List Segment) → KeepsLast task (put b (t ∷ ss) v) → KeepsLast task (s ∷ put b (t ∷ ss) v)
+  keeps_past task s true t [] keeps = keeps
+  keeps_past task s false t [] keeps = keeps
+  keeps_past task s b t (u ∷ ss) keeps = keeps
+
+  -- then the last one keeps its history, too
+  pub keeps_put : (task : Task) (b : Bool) (ss : List Segment) → All (SegmentStands task) ss → KeepsLast task ss → KeepsLast task (put b ss v)
+  keeps_put task b [] each keeps = tt
+  keeps_put task true (s ∷ []) each keeps = tt
+  keeps_put task false (s ∷ []) each keeps = let is : SegmentStands task s = all_head (SegmentStands task) s [] each in keeps_more task s is.few keeps
+  keeps_put task b (s ∷ t ∷ ss) each keeps = keeps_past task s b t ss (keeps_put task b (t ∷ ss) (all_tail (SegmentStands task) s (t ∷ ss) each) keeps)
 
   pub sound_more : (s : Segment) → IsSound s → IsSound (with_view s v)
   sound_more s is = record {
@@ -136,7 +160,7 @@ module _ (e : Engine) (segments : Vec Segment Global) (b : Bool) (later : ℕ) (
 
   pub one_more : IsAssigned 1 e (grown e segments later)
   one_more = record {
-    run = record { graph = refl; program = refl; rounds = refl; split = refl };
+    run = record { graph = refl; program = refl; rounds = refl; split = refl; grows = refl };
     order = refl;
     assigned = refl;
     works = λ k. ap (λ (ss : List Segment). get_or (map (λ (s : Segment). s.works) ss) k []) is ∙ works_put v b (segments_in e) k;
@@ -168,6 +192,7 @@ module _ (answer : Answer) (m : MatrixData) (e : Engine) (segments : Vec Segment
   so_far_more old ready decided =
       let task = task_of answer m e in
       let ss = segments_in e in
+      let kept : KeepsLast task ss = old.keeps (inr (slice_get_within e.order e.assigned v next)) in
       record {
         matrix = old.matrix;
         views = old.views;
@@ -179,8 +204,9 @@ module _ (answer : Answer) (m : MatrixData) (e : Engine) (segments : Vec Segment
             ∙ ap (segments_of task e.split) (sym (take_next (numbers e.order) e.assigned v.0 (get_map (λ (u : ViewNo). u.0) e.order e.assigned v next)));
         later = rw is decided.later;
         in_order = rw is (in_order e.split e d.anew v ready);
-        each = rw is (all_put v (SegmentStands task) (stands_more v task) (stands_fresh v task) d.anew ss old.each);
+        each = rw is (stands_put v task d.anew ss old.each kept);
         holds = rw is (holds_put task e.results v d.anew ss old.each old.holds);
+        keeps = λ on. rw is (keeps_put v task d.anew ss old.each kept);
         only = λ fresh u none. old.only fresh u (sym (ap (λ (xs : List Segment). work_in xs u) is ∙ work_put v d.anew ss u (λ k t low. (old.each k t low).few)) ∙ none);
       }
 

@@ -1,5 +1,5 @@
 -- An engine at first, and one whose order grew.
-use Rattle.std.proofs.Common.{◌≡◌, ℕ, ◌+◌, ◌≤◌, List, [], ◌++◌, length, map, take, get_or, All, Option, Some, None, refl, sym, ◌∙◌, ap, subst, arith, length-append}
+use Rattle.std.proofs.Common.{◌≡◌, ℕ, ◌+◌, ◌≤◌, List, [], ◌++◌, length, map, take, get_or, All, Option, Some, None, refl, sym, ◌∙◌, ap, subst, arith, length-append, true, false, inl, inr}
 use Rattle.std.specs.List.{sum_by}
 use Rattle.graph_model.specs.declared.number.ViewNo.{ViewNo}
 use Rattle.graph_model.specs.GraphData.{GraphData, AreDistinct}
@@ -18,7 +18,7 @@ use Rattle.view_segment.specs.Segments.{IsFinished, SegmentStands}
 use Rattle.view_segment.specs.Tasks.{Task}
 use Rattle.view_engine.specs.declared.engine.Engine.{Engine}
 use Rattle.view_engine.specs.Splits.{segments_of}
-use Rattle.view_engine.specs.Engines.{segments_in, stepped_in, assigned_of, task_of, works_in, views_in, KeepsLater, IsInOrder, HoldsView, IsKernelOf, AreFinished, AllowsSplit, IsSound, IsEngine, IsSameRun, Stands}
+use Rattle.view_engine.specs.Engines.{segments_in, stepped_in, assigned_of, task_of, works_in, views_in, GoesOn, KeepsLast, KeepsLater, IsInOrder, HoldsView, IsKernelOf, AreFinished, AllowsSplit, IsSound, IsEngine, IsSameRun, Stands}
 use Rattle.view_engine.specs.Assigning.{AreReadyFor, SoFar, IsFilled, filled_to}
 use Rattle.view_engine.proofs.Assigning.{take_map, take_front}
 use Rattle.view_engine.proofs.Moving.{stands_of, so_far_of}
@@ -46,6 +46,9 @@ ready_none graph along (Some kernel) is = absurd cc
 
 all_none : {A : Type 0} (P : A → Type 0) (xs : List A) → xs ≡ [] → All P xs
 all_none P xs is k d low = absurd (omega (arith, low, ap length is))
+
+none_keeps : (task : Task) (ss : List Segment) → ss ≡ [] → KeepsLast task ss
+none_keeps task ss is = subst (λ (xs : List Segment). KeepsLast task xs) (sym is) tt
 
 nothing_at : (k : ℕ) → get_or {A = List ℕ} [] k [] ≡ []
 nothing_at k = refl
@@ -90,6 +93,7 @@ module _ (e : Engine) (first : IsFirst e) where
     in_order = order_none e.split (segments_in e) first.segments;
     each = all_none (SegmentStands (task_of answer m e)) (segments_in e) first.segments;
     holds = all_none (λ s. All (HoldsView (task_of answer m e) e.results) (take (length s.works) s.views)) (segments_in e) first.segments;
+    keeps = λ on. none_keeps (task_of answer m e) (segments_in e) first.segments;
     only = λ fresh v none. ap (λ (hs : List Held). let r : ResultsData = record { nodes = e.results.nodes; held = hs } in held_on r v) first.held;
   }
 
@@ -149,8 +153,8 @@ module _ (e : Engine) (views : List ViewNo) where
     nodes = engine.nodes;
   }
 
-  pub so_far_longer : (answer : Answer) (m : MatrixData) → IsEngine e → All (IsView m) (e.order ++ views) → AreDistinct (e.order ++ views) → Stands answer m e → SoFar answer m (longer e views)
-  so_far_longer answer m engine are distinct stands =
+  pub so_far_longer : (answer : Answer) (m : MatrixData) → IsEngine e → e.grows ≡ true → All (IsView m) (e.order ++ views) → AreDistinct (e.order ++ views) → Stands answer m e → SoFar answer m (longer e views)
+  so_far_longer answer m engine grows are distinct stands =
       let so_far = so_far_of answer m e engine stands in
       record {
         matrix = so_far.matrix;
@@ -164,6 +168,7 @@ module _ (e : Engine) (views : List ViewNo) where
         in_order = so_far.in_order;
         each = so_far.each;
         holds = so_far.holds;
+        keeps = λ on. stands.keeps (inl grows);
         only = so_far.only;
       }
 
@@ -178,15 +183,36 @@ ready_by_finished e o finished (split.Every n) = tt
 -- what an engine whose order grew is once views got their segments
 module _ (e : Engine) (views o : List ViewNo) (is : o ≡ e.order ++ views) (e2 : Engine) (filled : IsFilled (record e { order = o }) e2) where
   pub run_added : IsSameRun e e2
-  run_added = record { graph = filled.run.graph; program = filled.run.program; rounds = filled.run.rounds; split = filled.run.split }
+  run_added = record { graph = filled.run.graph; program = filled.run.program; rounds = filled.run.rounds; split = filled.run.split; grows = filled.run.grows }
 
-  pub stands_added : (m : MatrixData) → IsEngine e → AreFinished e → All (IsView m) (e.order ++ views) → AreDistinct (e.order ++ views) → IsEngine e2
+  pub stands_added : (m : MatrixData) → IsEngine e → e.grows ≡ true → AreFinished e → All (IsView m) (e.order ++ views) → AreDistinct (e.order ++ views) → IsEngine e2
       → ((answer : Answer) → AreReadyFor e.split (record e { order = o }) → SoFar answer m (record e { order = o }) → SoFar answer m e2)
       → (answer : Answer) → Stands answer m e → Stands answer m e2
-  stands_added m engine finished all distinct behind so_far answer stands =
+  stands_added m engine grows finished all distinct behind so_far answer stands =
       stands_of answer m e2 behind (by_now (record e { order = o }) e2 filled behind (all_assigned e views engine finished))
       (so_far answer (ready_by_finished e o finished e.split)
-      (subst (λ (l : List ViewNo). SoFar answer m (record e { order = l })) (sym is) (so_far_longer e views answer m engine all distinct stands)))
+      (subst (λ (l : List ViewNo). SoFar answer m (record e { order = l })) (sym is) (so_far_longer e views answer m engine grows all distinct stands)))
 
 pub engine_added : (e : Engine) (views o : List ViewNo) → o ≡ e.order ++ views → IsEngine e → length e.order + length views ≤ 1_024 → IsEngine (record e { order = o })
 engine_added e views o is engine few = subst (λ (l : List ViewNo). IsEngine (record e { order = l })) (sym is) (engine_longer e views engine few)
+
+-- ---- an engine that is closed
+
+goes_still : (e : Engine) → GoesOn (record e { grows = false }) → GoesOn e
+goes_still e (inl never) = absurd cc
+goes_still e (inr left) = inr left
+
+pub closed_stands : (answer : Answer) (m : MatrixData) (e : Engine) → Stands answer m e → Stands answer m (record e { grows = false })
+closed_stands answer m e is = record {
+  matrix = is.matrix;
+  views = is.views;
+  distinct = is.distinct;
+  segments = is.segments;
+  assigned = is.assigned;
+  later = is.later;
+  in_order = is.in_order;
+  each = is.each;
+  holds = is.holds;
+  keeps = λ on. is.keeps (goes_still e on);
+  only = is.only;
+}

@@ -12,7 +12,7 @@ ready_other split.Whole e other = tt
 ready_other (split.Every n) e other = tt
 
 pub same_run : (e : Engine) → IsSameRun e e
-same_run e = record { graph = refl; program = refl; rounds = refl; split = refl }
+same_run e = record { graph = refl; program = refl; rounds = refl; split = refl; grows = refl }
 
 pub none_assigned : (e : Engine) (n : ℕ) → n ≡ 0 → IsAssigned n e e
 none_assigned e n none = record { run = same_run e; order = refl; assigned = omega (arith, none); works = λ k. refl; stepped = refl; results = refl; spent = refl }
@@ -24,6 +24,7 @@ assigned_then a b c n k first next sum = record {
     program = next.run.program ∙ first.run.program;
     rounds = next.run.rounds ∙ first.run.rounds;
     split = next.run.split ∙ first.run.split;
+    grows = next.run.grows ∙ first.run.grows;
   };
   order = next.order ∙ first.order;
   assigned = omega (arith, first.assigned, next.assigned, sum);

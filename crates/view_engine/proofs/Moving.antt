@@ -25,16 +25,16 @@ use Rattle.view_order.specs.Greedy.{numbers}
 use Rattle.result_tables.specs.Results.{Held, ResultsData, held_on, assigned, values_of, values_after, with_answer, IsNew, IsBefore, IsChange}
 use Rattle.view_segment.specs.declared.segment.Given.{Given}
 use Rattle.view_segment.specs.declared.segment.Segment.{Segment}
-use Rattle.view_segment.specs.Segments.{last_of, stepped, last_stepped, last_values, change_of, place_of, IsFinished, IsGiven, SegmentStands}
+use Rattle.view_segment.specs.Segments.{last_of, stepped, last_stepped, last_values, change_of, place_of, IsFinished, IsGiven, KeepsHistory, SegmentStands}
 use Rattle.view_segment.specs.Tasks.{lone_of, view_arcs, arcs_before, work_of}
 use Rattle.view_engine.specs.declared.engine.Engine.{Engine}
 use Rattle.view_engine.specs.Splits.{later_edges, segments_of}
-use Rattle.view_engine.specs.Engines.{segments_in, assigned_in, stepped_in, assigned_of, task_of, views_in, last_views, work_in, KeepsLater, IsInOrder, HoldsView, IsKernelOf, IsSound, IsEngine, Stands, HasMoved}
+use Rattle.view_engine.specs.Engines.{segments_in, assigned_in, stepped_in, assigned_of, task_of, views_in, last_views, work_in, KeepsLater, GoesOn, IsInOrder, HoldsView, IsKernelOf, IsSound, IsEngine, Stands, HasMoved}
 use Rattle.view_engine.specs.Assigning.{AreReadyFor, SoFar, HasStepped, IsFilled, filled_to}
 use Rattle.view_engine.proofs.Putting.{all_at, all_cons}
 use Rattle.view_engine.proofs.Assigning.{take_next, take_map}
 use Rattle.view_engine.proofs.Keeping.{pair_of, all_values, all_nodes, changed_nodes, changes_made, held_still, held_new, held_none}
-use Rattle.view_engine.proofs.Stepping.{views_set, numbers_set, count_set, last_set, stepped_set, set_all, mapped_set, mapped_at, mapped_other, all_finished, work_more, next_has_none}
+use Rattle.view_engine.proofs.Stepping.{views_set, numbers_set, count_set, last_set, keeps_set, stepped_set, set_all, mapped_set, mapped_at, mapped_other, all_finished, work_more, next_has_none}
 
 -- ---- so far, and by now
 
@@ -48,6 +48,7 @@ so_far_of answer m e engine stands = record {
   in_order = stands.in_order;
   each = stands.each;
   holds = stands.holds;
+  keeps = stands.keeps;
   only = stands.only;
 }
 
@@ -62,6 +63,7 @@ stands_of answer m e engine by_now is = record {
   in_order = is.in_order;
   each = is.each;
   holds = is.holds;
+  keeps = is.keeps;
   only = is.only;
 }
 
@@ -206,8 +208,8 @@ module _ (answer : Answer) (m : MatrixData) (e : Engine) (fresh : e.spent ≡ fa
         later_by split.Whole keeps = tt
         later_by (split.Every n) keeps = tt
 
-        pub so_far_now : SoFar answer m (record e { segments = segments; kernel = kernel; results = results })
-        so_far_now = record {
+        pub so_far_now : (GoesOn e → k + 1 ≡ length (segments_in e) → KeepsHistory (task_of answer m e) t) → SoFar answer m (record e { segments = segments; kernel = kernel; results = results })
+        so_far_now keeps = record {
           matrix = stands.matrix;
           views = stands.views;
           distinct = stands.distinct;
@@ -218,6 +220,7 @@ module _ (answer : Answer) (m : MatrixData) (e : Engine) (fresh : e.spent ≡ fa
           in_order = order_by e.split (ready_by e.split stands.assigned);
           each = each_now;
           holds = rw (put_in, kept) holds_now;
+          keeps = λ on. rw put_in (keeps_set (task_of answer m e) t (segments_in e) k (keeps on) (stands.keeps on));
           only = λ _ u none. ap (λ (r : ResultsData). held_on r u) kept ∙ only_now u (sym (ap (λ (ss : List Segment). work_in ss u) put_in) ∙ none);
         }
 
@@ -260,7 +263,7 @@ module _ (answer : Answer) (m : MatrixData) (e : Engine) (fresh : e.spent ≡ fa
         pub has_stepped : (calls_before calls_after : ℕ) → calls_after ≡ calls_before + work → HasStepped k e (record e { segments = segments; kernel = kernel; results = results }) calls_before calls_after
         has_stepped calls_before calls_after calls = record {
           moved = record {
-            run = record { graph = refl; program = refl; rounds = refl; split = refl };
+            run = record { graph = refl; program = refl; rounds = refl; split = refl; grows = refl };
             order = refl;
             view = given.view;
             next = ap (option_and_then (λ (s : Segment). slice_get s.views (length s.works))) at ∙ is.view;
@@ -299,6 +302,7 @@ moved_then k a b c before after stepped filled = record {
     program = filled.run.program ∙ stepped.moved.run.program;
     rounds = filled.run.rounds ∙ stepped.moved.run.rounds;
     split = filled.run.split ∙ stepped.moved.run.split;
+    grows = filled.run.grows ∙ stepped.moved.run.grows;
   };
   order = filled.order ∙ stepped.moved.order;
   view = stepped.moved.view;

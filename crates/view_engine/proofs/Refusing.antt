@@ -18,7 +18,7 @@ use Rattle.view_segment.specs.Segments.{SegmentStands, kept_of, taken_back}
 use Rattle.view_segment.specs.Tasks.{Task}
 use Rattle.view_engine.specs.declared.engine.Engine.{Engine}
 use Rattle.view_engine.specs.Splits.{segments_of}
-use Rattle.view_engine.specs.Engines.{segments_in, assigned_in, stepped_in, assigned_of, task_of, views_in, last_views, segment_at, work_in, work_at, KeepsLater, IsInOrder, HoldsView, IsKernelOf, IsSound, IsEngine, Stands, TellsTheSame}
+use Rattle.view_engine.specs.Engines.{segments_in, assigned_in, stepped_in, assigned_of, task_of, views_in, last_views, segment_at, work_in, work_at, KeepsLater, IsInOrder, HoldsView, IsKernelOf, IsSound, IsEngine, Stands, TellsTheSame, KeepsLast}
 use Rattle.view_engine.specs.Assigning.{put, with_view, IsMark, IsGrown, AreGrown, HasGrown, HasStayed, IsAsBefore, LeadsBack, StillHolds, change_in, changed}
 use Rattle.view_engine.proofs.Assigning.{take_front, take_whole}
 use Rattle.view_engine.proofs.Putting.{last_at}
@@ -297,12 +297,13 @@ module _ (e : Engine) (segments : Vec Segment Global) (kernel : Option Kernel) (
       each = subst (λ (ss : List Segment). All (SegmentStands (task_of answer m e)) ss) (sym same) is.each;
       holds = subst (λ (ss : List Segment). All (λ (s : Segment). All (HoldsView (task_of answer m e) results) (take (length s.works) s.views)) ss) (sym same)
           (λ i d low j c lt. still _ (is.holds i d low j c lt));
+      keeps = λ on. subst (λ (ss : List Segment). KeepsLast (task_of answer m e) ss) (sym same) (is.keeps on);
       only = λ fresh. absurd (let never : true ≡ false = fresh in cc);
     }
 
   tells_after : StillHolds e.results results → TellsTheSame e after
   tells_after held = record {
-    run = record { graph = refl; program = refl; rounds = refl; split = refl };
+    run = record { graph = refl; program = refl; rounds = refl; split = refl; grows = refl };
     order = refl;
     segments = same;
     segment_of = λ v. ap (λ (ss : List Segment). position (λ (s : Segment). list_any (λ (u : ViewNo). u.0 == v.0) s.views) ss) same;

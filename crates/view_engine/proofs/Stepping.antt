@@ -8,8 +8,9 @@ use Rattle.graph_model.specs.declared.number.ViewNo.{ViewNo}
 use Rattle.graph_model.specs.GraphData.{AreDistinct}
 use Rattle.view_order.specs.Greedy.{numbers}
 use Rattle.view_segment.specs.declared.segment.Segment.{Segment}
-use Rattle.view_segment.specs.Segments.{IsFinished}
-use Rattle.view_engine.specs.Engines.{views_in, last_views, work_beside, work_in, either}
+use Rattle.view_segment.specs.Segments.{IsFinished, KeepsHistory}
+use Rattle.view_segment.specs.Tasks.{Task}
+use Rattle.view_engine.specs.Engines.{KeepsLast, views_in, last_views, work_beside, work_in, either}
 use Rattle.view_engine.proofs.Putting.{all_at, all_from, all_cons, all_head, all_tail}
 
 -- ---- where only the works of one segment change
@@ -46,6 +47,15 @@ module _ (s t : Segment) (same : t.views ≡ s.views) where
       let here : length x.works ≡ length s.works = ap (λ (s : Segment). length s.works) is in
       omega (arith, more, here, sum_by-cons (λ (s : Segment). length s.works) t ss, sum_by-cons (λ (s : Segment). length s.works) x ss)
   stepped_set (x ∷ ss) (suc k) more at = omega (arith, stepped_set ss k more at, sum_by-cons (λ (s : Segment). length s.works) x (set ss k t), sum_by-cons (λ (s : Segment). length s.works) x ss)
+
+-- the last segment keeps a history still
+pub keeps_set : (task : Task) (t : Segment) (ss : List Segment) (k : ℕ) → (k + 1 ≡ length ss → KeepsHistory task t) → KeepsLast task ss → KeepsLast task (set ss k t)
+keeps_set task t [] k new keeps = tt
+keeps_set task t (x ∷ []) zero new keeps = new (omega arith)
+keeps_set task t (x ∷ []) (suc k) new keeps = keeps
+keeps_set task t (x ∷ y ∷ ss) zero new keeps = keeps
+keeps_set task t (x ∷ y ∷ ss) (suc zero) new keeps = keeps_set task t (y ∷ ss) zero (λ e. new (omega (arith, e))) keeps
+keeps_set task t (x ∷ y ∷ ss) (suc (suc k)) new keeps = keeps_set task t (y ∷ ss) (suc k) (λ e. new (omega (arith, e))) keeps
 
 -- ---- any list
 

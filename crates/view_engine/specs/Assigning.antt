@@ -23,7 +23,7 @@ use Rattle.view_engine.specs.declared.counting.Decision.{Decision}
 use Rattle.view_engine.specs.declared.engine.Engine.{Engine}
 use Rattle.view_engine.specs.declared.placing.Mark.{Mark}
 use Rattle.view_engine.specs.Splits.{counts_of, segments_of}
-use Rattle.view_engine.specs.Engines.{segments_in, task_of, work_at, last_views, KeepsLater, IsInOrder, IsKernelOf, HoldsView, AreFinished, IsSameRun, HasMoved, works_in, stepped_in}
+use Rattle.view_engine.specs.Engines.{segments_in, task_of, work_at, last_views, KeepsLater, KeepsLast, GoesOn, IsInOrder, IsKernelOf, HoldsView, AreFinished, IsSameRun, HasMoved, works_in, stepped_in}
 
 -- ---- a view more
 
@@ -79,6 +79,7 @@ pub record SoFar (answer : Answer) (m : MatrixData) (e : Engine) : Type 0 where
   pub in_order : IsInOrder e.split (segments_in e)
   pub each : All (SegmentStands (task_of answer m e)) (segments_in e)
   pub holds : All (λ s. All (HoldsView (task_of answer m e) e.results) (take (length s.works) s.views)) (segments_in e)
+  pub keeps : GoesOn e → KeepsLast (task_of answer m e) (segments_in e)
   pub only : e.spent ≡ false → (v : ViewNo) → work_at e v ≡ None → held_on e.results v ≡ None
 
 -- ---- what calls inside leave

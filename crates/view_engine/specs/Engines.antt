@@ -1,5 +1,5 @@
 -- What an engine holds.
-use Rattle.std.specs.Prelude.{◌≡◌, ◌≢◌, ◌<◌, ◌≤◌, ◌+◌, ◌*◌, ℕ, suc, min, ⊤, false, List, [], ◌∷◌, ◌++◌, length, map, take, All, slice_get, get_or, ◌==◌, if◌then◌else◌, Option, Some, None, option_and_then}
+use Rattle.std.specs.Prelude.{◌≡◌, ◌≢◌, ◌<◌, ◌≤◌, ◌+◌, ◌*◌, ℕ, suc, min, ⊤, true, false, ◌⊎◌, List, [], ◌∷◌, ◌++◌, length, map, take, All, slice_get, get_or, ◌==◌, if◌then◌else◌, Option, Some, None, option_and_then}
 use Rattle.std.specs.List.{sum_by, list_any, position}
 use Rattle.graph_model.specs.declared.number.ViewNo.{ViewNo}
 use Rattle.graph_model.specs.GraphData.{GraphData, AreDistinct}
@@ -18,7 +18,7 @@ use Rattle.result_tables.specs.declared.table.Table.{Table}
 use Rattle.result_tables.specs.TableText.{table_of}
 use Rattle.result_tables.specs.Results.{ResultsData, held_on}
 use Rattle.view_segment.specs.declared.segment.Segment.{Segment}
-use Rattle.view_segment.specs.Segments.{SegmentStands, IsFinished, stepped, last_values}
+use Rattle.view_segment.specs.Segments.{SegmentStands, IsFinished, KeepsHistory, stepped, last_values}
 use Rattle.view_segment.specs.Tasks.{Task, task_over, lone_of}
 use Rattle.view_engine.specs.declared.engine.Engine.{Engine}
 use Rattle.view_engine.specs.Splits.{later_edges, segments_of}
@@ -107,8 +107,19 @@ abbrev pub IsKernelOf : GraphData → Along → Option Kernel → Type 0
 IsKernelOf graph along None = ⊤
 IsKernelOf graph along (Some kernel) = IsKernel graph kernel × AreOfAll along graph kernel.rows
 
+-- views may still be put behind those that have a segment
+abbrev pub GoesOn : Engine → Type 0
+GoesOn e = (e.grows ≡ true) ⊎ (e.assigned < length e.order)
+
+-- the last segment keeps the history of the view that was stepped last in it
+abbrev pub KeepsLast : Task → List Segment → Type 0
+KeepsLast task [] = ⊤
+KeepsLast task (s ∷ []) = KeepsHistory task s
+KeepsLast task (s ∷ t ∷ ss) = KeepsLast task (t ∷ ss)
+
 -- An engine stands for a matrix: its segments are those of the split, each holds what its views ask, and the results hold
--- the views that were stepped. Unless it is spent they hold no other.
+-- the views that were stepped. Unless it is spent they hold no other. While views may still be put behind them, the last
+-- segment keeps the history of the view that was stepped last in it.
 pub record Stands (answer : Answer) (m : MatrixData) (e : Engine) : Type 0 where
   pub matrix : length m.live ≡ length e.graph.now.ends
   pub views : All (IsView m) e.order
@@ -119,6 +130,7 @@ pub record Stands (answer : Answer) (m : MatrixData) (e : Engine) : Type 0 where
   pub in_order : IsInOrder e.split (segments_in e)
   pub each : All (SegmentStands (task_of answer m e)) (segments_in e)
   pub holds : All (λ s. All (HoldsView (task_of answer m e) e.results) (take (length s.works) s.views)) (segments_in e)
+  pub keeps : GoesOn e → KeepsLast (task_of answer m e) (segments_in e)
   pub only : e.spent ≡ false → (v : ViewNo) → work_at e v ≡ None → held_on e.results v ≡ None
 
 -- a segment has a view, and no more works than views, none of them above the greatest number of nodes times that of rounds
@@ -164,6 +176,7 @@ pub record IsSameRun (old new : Engine) : Type 0 where
   pub program : new.program ≡ old.program
   pub rounds : new.rounds ≡ old.rounds
   pub split : new.split ≡ old.split
+  pub grows : new.grows ≡ old.grows
 
 -- All that is told of an engine is as it was: which views it has, its segments with the views and works of each, and so the
 -- segment and the work of each view. It stands for the same matrices, so the table of each view is the same, too.

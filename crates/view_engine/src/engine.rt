@@ -9,7 +9,7 @@ ghost use Rattle.vertex_lang.specs.Lone.{number_of};
 ghost use Rattle.view_matrix.specs.Matrices.{MatrixData, IsView};
 ghost use Rattle.view_segment.specs.Segments.{IsFinished};
 ghost use Rattle.view_engine.specs.Assigning.{AreReadyFor, SoFar, IsAssigned, IsFilled, HasStepped, HasStayed, HasGrown, IsAsBefore, LeadsBack};
-ghost use Rattle.view_engine.specs.Engines.{AllowsSplit, IsEngine, IsKernelOf, Stands, AreFinished, IsSameRun, HasMoved, TellsTheSame, IsResult, task_of, works_in, segment_at, work_at, work_beside, work_in};
+ghost use Rattle.view_engine.specs.Engines.{AllowsSplit, GoesOn, IsEngine, IsKernelOf, Stands, AreFinished, IsSameRun, HasMoved, TellsTheSame, IsResult, task_of, works_in, segment_at, work_at, work_beside, work_in};
 
 use crate::changes::hold;
 use crate::counting::decide;
@@ -35,8 +35,9 @@ pub enum Turn {
 
 /// The run of a program on views in an order, in segments. Of the order the first `assigned` views have a segment. Where
 /// the split looks at works, `later` says in how many edges the later views of the last segment differ from the view before
-/// each. After want of memory the engine is spent: it takes no turn and no views any more, and tells what it told before the
-/// call that was refused.
+/// each. While it `grows` views may be added; once it is closed, no history is kept of a view behind which none comes. After want
+/// of memory the engine is spent: it takes no turn and no views any more, and tells what it told before the call that was
+/// refused.
 #[derive(Drop)]
 pub struct Engine<'g> {
     alloc: Global,
@@ -50,6 +51,7 @@ pub struct Engine<'g> {
     kernel: Option<Kernel>,
     assigned: usize,
     later: u64,
+    grows: bool,
     spent: bool,
 }
 
@@ -80,6 +82,7 @@ impl<'g> Engine<'g> {
         ensures split { IfOk result (λ e. e.split ≡ split) }
         ensures order { IfOk result (λ e. e.order ≡ order.now) }
         ensures works { IfOk result (λ e. (k : ℕ) → works_in e k ≡ []) }
+        ensures grows { IfOk result (λ e. e.grows ≡ true) }
         ensures fresh { IfOk result (λ e. e.spent ≡ false) }
     {
         let mut engine = Engine {
@@ -94,6 +97,7 @@ impl<'g> Engine<'g> {
             kernel: None,
             assigned: 0,
             later: 0,
+            grows: true,
             spent: false,
         };
         engine.fill(matrix)?;
@@ -245,6 +249,19 @@ impl<'g> Engine<'g> {
         }
     }
 
+    // Whether views may still be put at the end of this segment: it is the last one, and the engine takes more or has them.
+    fn goes_on(&self, segment: usize) -> bool
+        requires { segment < length self.now.segments.items }
+        ensures goes_on { GoesOn self.now → segment + 1 ≡ length self.now.segments.items → result ≡ true }
+        ensures ends { result ≡ true → GoesOn self.now }
+        ensures last { result ≡ true → segment + 1 ≡ length self.now.segments.items }
+    {
+        if segment != self.segments.len() - 1 {
+            return false;
+        }
+        self.grows || self.assigned < self.order.len()
+    }
+
     // Steps the next view of a segment that isn't finished, and keeps its answer. The result is what the segment kept before,
     // with which the step can be taken back. A refusal takes it back.
     fn step<U: Updater>(
@@ -270,7 +287,15 @@ impl<'g> Engine<'g> {
             graph: self.graph,
             rounds: self.rounds,
         };
-        let given = self.segments[segment].step(self.alloc, plan, matrix, &mut kernel, updater)?;
+        let grows = self.goes_on(segment);
+        let given = self.segments[segment].step(
+            self.alloc,
+            plan,
+            matrix,
+            &mut kernel,
+            grows,
+            updater,
+        )?;
         self.kernel = Some(kernel);
         match hold(self.alloc, &mut self.results, &given) {
             Ok(()) => Ok(given.kept),
@@ -310,10 +335,20 @@ impl<'g> Engine<'g> {
         }
     }
 
-    /// Adds these views of a matrix behind its own, once each of its own was stepped. The error is want of memory; then the
-    /// engine is spent, and tells what it told before.
+    /// Says that no more views will be added: then no history is kept of a view behind which none comes, since nobody would read it.
+    pub fn close(&mut self)
+        ensures engine { IsEngine self.old → IsEngine self.new }
+        ensures closed { self.new ≡ record self.old { grows = false } }
+        ensures stands { (answer : Answer) (m : MatrixData) → Stands answer m self.old → Stands answer m self.new }
+    {
+        self.grows = false;
+    }
+
+    /// Adds these views of a matrix behind its own, once each of its own was stepped, unless the engine is closed. The error is want
+    /// of memory; then the engine is spent, and tells what it told before.
     pub fn more(&mut self, matrix: &Matrix, views: &[ViewNo]) -> Result<(), NoMemory>
         requires fresh { self.old.spent ≡ false }
+        requires grows { self.old.grows ≡ true }
         requires engine { IsEngine self.old }
         requires finished { AreFinished self.old }
         requires matrix { length matrix.now.live ≡ length self.old.graph.now.ends }
@@ -341,6 +376,7 @@ impl<'g> Engine<'g> {
     // Adds these views behind its own. A refusal leaves the engine as it was.
     fn add(&mut self, matrix: &Matrix, views: &[ViewNo]) -> Result<(), NoMemory>
         requires engine { IsEngine self.old }
+        requires grows { self.old.grows ≡ true }
         requires finished { AreFinished self.old }
         requires views { All (IsView matrix.now) (self.old.order ++ views.now) }
         requires distinct { AreDistinct (self.old.order ++ views.now) }

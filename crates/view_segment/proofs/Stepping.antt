@@ -12,7 +12,7 @@ use Rattle.vertex_lang.specs.Rounds.{lone}
 use Rattle.lone_work.specs.Work.{work}
 use Rattle.change_lists.specs.declared.history.History.{History}
 use Rattle.round_kernel.specs.declared.kernel.Kernel.{Kernel}
-use Rattle.round_kernel.specs.declared.step.Stepped.{Stepped}
+use Rattle.round_kernel.specs.declared.ended.Ended.{Ended}
 use Rattle.round_kernel.specs.Histories.{IsHistory}
 use Rattle.change_lists.specs.ChangeLists.{changes_from, all_from}
 use Rattle.arc_rows.specs.Views.{arcs_in}
@@ -31,8 +31,13 @@ module _ (answer : Answer) (s : Setting) (kernel : Kernel) (is : IsSetting s ker
       → IsHistory answer s.plan.program.now s.plan.graph.now (Some (arcs_in kernel.rows.by_head flags)) (number_of s.plan.rounds) h
   history-before v flags h e known = history-permuted answer s.plan.program.now s.plan.graph.now (view_arcs (task_in answer s) v) (arcs_in kernel.rows.by_head flags) (number_of s.plan.rounds) h (same-arcs v flags e) known
 
-  module _ (v : ℕ) (flags : List Bool) (e : flags ≡ flags_of s.matrix.now v) (t : Stepped)
-      (history : IsHistory answer s.plan.program.now s.plan.graph.now (Some (arcs_in kernel.rows.by_head flags)) (number_of s.plan.rounds) t.history)
+  -- and the other way round
+  pub history-behind : (v : ℕ) (flags : List Bool) (h : History) → flags ≡ flags_of s.matrix.now v → IsHistory answer s.plan.program.now s.plan.graph.now (Some (arcs_in kernel.rows.by_head flags)) (number_of s.plan.rounds) h
+      → IsHistory answer s.plan.program.now s.plan.graph.now (Some (view_arcs (task_in answer s) v)) (number_of s.plan.rounds) h
+  history-behind v flags h e known = history-permuted answer s.plan.program.now s.plan.graph.now (arcs_in kernel.rows.by_head flags) (view_arcs (task_in answer s) v) (number_of s.plan.rounds) h
+      (IsPermutation-sym (view_arcs (task_in answer s) v) (arcs_in kernel.rows.by_head flags) (same-arcs v flags e)) known
+
+  module _ (v : ℕ) (flags : List Bool) (e : flags ≡ flags_of s.matrix.now v) (t : Ended)
       (outcome : t.outcome ≡ (answer_of answer s.plan.program.now s.plan.graph.now (arcs_in kernel.rows.by_head flags) s.plan.rounds).outcome) where
     back : IsPermutation (arcs_in kernel.rows.by_head flags) (view_arcs (task_in answer s) v)
     back = IsPermutation-sym (view_arcs (task_in answer s) v) (arcs_in kernel.rows.by_head flags) (same-arcs v flags e)
@@ -47,7 +52,6 @@ module _ (answer : Answer) (s : Setting) (kernel : Kernel) (is : IsSetting s ker
         → t.work ≡ work answer s.plan.program.now s.plan.graph.now (arcs_in kernel.rows.by_head flags) None (number_of s.plan.rounds)
         → IsStep (task_in answer s) None v t
     first-given change works = record {
-      history = history-permuted answer s.plan.program.now s.plan.graph.now (arcs_in kernel.rows.by_head flags) (view_arcs (task_in answer s) v) (number_of s.plan.rounds) t.history back history;
       outcome = outcome-is;
       change = change ∙ ap (λ (vs : List Val). all_from 0 vs) values-are;
       work = works ∙ work-permuted answer s.plan.program.now s.plan.graph.now (arcs_in kernel.rows.by_head flags) (view_arcs (task_in answer s) v) None None (number_of s.plan.rounds) back tt;
@@ -63,7 +67,6 @@ module _ (answer : Answer) (s : Setting) (kernel : Kernel) (is : IsSetting s ker
         let swap = IsPermutation-sym before olds (same-arcs u old d) in
         let old_values = permuted-arcs answer s.plan.program.now s.plan.graph.now olds before (number_of s.plan.rounds) swap in
         record {
-          history = history-permuted answer s.plan.program.now s.plan.graph.now (arcs_in kernel.rows.by_head flags) (view_arcs (task_in answer s) v) (number_of s.plan.rounds) t.history back history;
           outcome = outcome-is;
           change = change ∙ ap (λ (vs : List Val). changes_from 0 vs (lone answer s.plan.program.now s.plan.graph.now (arcs_in kernel.rows.by_head flags) (number_of s.plan.rounds))) old_values ∙ ap (λ (vs : List Val). changes_from 0 (lone answer s.plan.program.now s.plan.graph.now before (number_of s.plan.rounds)) vs) values-are;
           work = works ∙ work-permuted answer s.plan.program.now s.plan.graph.now (arcs_in kernel.rows.by_head flags) (view_arcs (task_in answer s) v) (Some olds) (Some before) (number_of s.plan.rounds) back swap;

@@ -42,6 +42,10 @@ HistoryOf task None (Some h) = ⊥
 HistoryOf task (Some v) None = ⊥
 HistoryOf task (Some v) (Some h) = IsHistory task.answer task.program task.graph (Some (view_arcs task v)) (number_of task.rounds) h
 
+-- the history of the view that was stepped last is kept
+abbrev pub KeepsHistory : Task → Segment → Type 0
+KeepsHistory task s = HistoryOf task (last_stepped s) s.history
+
 -- of each edge of the graph whether it is in the view
 abbrev pub view_flags : Task → ℕ → List Bool
 view_flags task v = map (λ e. is_in (task.edges v) (edge e)) (range_with_len 0 (length task.graph.ends))
@@ -51,12 +55,12 @@ abbrev pub FlagsOf : Task → Option ℕ → List Bool → Type 0
 FlagsOf task None flags = ⊥
 FlagsOf task (Some v) flags = flags ≡ view_flags task v
 
--- What a segment holds is what its task says. Flags that it keeps are those of the view that was stepped last, and once
--- each view was stepped it keeps none.
+-- What a segment holds is what its task says. While a view wasn't stepped, the history of the one that was stepped last is
+-- kept. Flags that it keeps are those of that view, and once each view was stepped it keeps none.
 pub record SegmentStands (task : Task) (s : Segment) : Type 0 where
   pub few : length s.works ≤ length s.views
   pub works : s.works ≡ works_of task (stepped s)
-  pub history : HistoryOf task (last_stepped s) s.history
+  pub history : (IsFinished s → ⊥) → KeepsHistory task s
   pub flags : IfSome s.flags (λ kept. FlagsOf task (last_stepped s) kept.items)
   pub done : IsFinished s → s.flags ≡ None
 

@@ -1,19 +1,17 @@
 -- What a step is given, and what it gives.
-use Rattle.std.specs.Prelude.{◌≡◌, ℕ, Bool, false, not, List, length, map, get_or, slice_set, Option, Some}
+use Rattle.std.specs.Prelude.{◌≡◌, ℕ, Bool, false, not, List, length, map, get_or, slice_set, Option}
 use Rattle.std.specs.List.{range_with_len}
 use Rattle.graph_model.specs.declared.number.EdgeNo.{EdgeNo}
 use Rattle.vertex_lang.specs.Expressions.{Answer}
-use Rattle.vertex_lang.specs.Lone.{number_of}
 use Rattle.round_kernel.specs.declared.kernel.Kernel.{Kernel}
 use Rattle.round_kernel.specs.declared.plan.Plan.{Plan}
-use Rattle.round_kernel.specs.declared.step.Stepped.{Stepped}
-use Rattle.round_kernel.specs.Histories.{IsHistory}
+use Rattle.round_kernel.specs.declared.ended.Ended.{Ended}
 use Rattle.round_kernel.specs.Plans.{MayRun}
 use Rattle.arc_rows.specs.RowLists.{AreOfAll}
 use Rattle.view_matrix.specs.Matrices.{MatrixData, bit_of}
 use Rattle.view_segment.specs.declared.step.Setting.{Setting}
 use Rattle.view_segment.specs.Segments.{change_of}
-use Rattle.view_segment.specs.Tasks.{Task, task_over, view_arcs, lone_of, work_of}
+use Rattle.view_segment.specs.Tasks.{Task, task_over, lone_of, work_of}
 
 -- of each edge whether it stands in the view
 abbrev pub flags_of : MatrixData → ℕ → List Bool
@@ -36,8 +34,7 @@ abbrev pub task_in : Answer → Setting → Task
 task_in answer s = task_of answer s.plan s.matrix.now
 
 -- what a step gives of a view behind another one, or behind none
-pub record IsStep (task : Task) (before : Option ℕ) (v : ℕ) (s : Stepped) : Type 0 where
-  pub history : IsHistory task.answer task.program task.graph (Some (view_arcs task v)) (number_of task.rounds) s.history
+pub record IsStep (task : Task) (before : Option ℕ) (v : ℕ) (s : Ended) : Type 0 where
   pub outcome : s.outcome ≡ (lone_of task v).outcome
   pub change : s.change ≡ change_of task before v
   pub work : s.work ≡ work_of task before v

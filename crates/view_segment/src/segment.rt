@@ -1,28 +1,28 @@
 //! A segment.
 
-ghost use Rattle.std.specs.Prelude.{◌≡◌, ◌<◌, ◌≤◌, ◌+◌, ◌++◌, ◌∷◌, [], length, take, All, IfOk, OnOk, OnErr, None};
+ghost use Rattle.std.specs.Prelude.{◌≡◌, ◌<◌, ◌≤◌, ◌+◌, ◌++◌, ◌∷◌, [], true, false, length, take, All, IfOk, OnOk, OnErr, Some, None};
 ghost use Rattle.std.specs.Prelude.{◌==◌};
 ghost use Rattle.round_kernel.specs.Kernels.{IsKernel};
 ghost use Rattle.round_kernel.specs.Plans.{MayRun};
 ghost use Rattle.arc_rows.specs.RowLists.{AreOfAll};
 ghost use Rattle.view_matrix.specs.Matrices.{IsView};
 ghost use Rattle.view_segment.specs.Tasks.{work_of};
-ghost use Rattle.view_segment.specs.Segments.{last_stepped, place_of, taken_back, SegmentStands, IsGiven};
+ghost use Rattle.view_segment.specs.Segments.{last_stepped, place_of, taken_back, HistoryOf, IsFinished, IsGiven, KeepsHistory, SegmentStands};
 ghost use Rattle.view_segment.specs.Steps.{IsSetting, IsStep, flags_of, task_in, task_of};
 
-use crate::step::{Before, Setting, step_first, step_later};
+use crate::step::{Before, Made, Setting, step_first, step_later};
 use change_lists::{Change, History};
 use graph_model::ViewNo;
-use round_kernel::{Kernel, Plan, Stepped};
+use round_kernel::{Ended, Kernel, Plan};
 use std::alloc::Global;
 use std::mem;
 use surge_outside::{List, NoMemory};
 use vertex_lang::{Outcome, Updater};
 use view_matrix::Matrix;
 
-/// Views that are run one after the other. Of the last one that was stepped its history is kept, and of each its work.
-/// While there is a view that was not stepped yet, `flags` may tell of each edge whether it is in the view that was stepped
-/// last; else there is nothing.
+/// Views that are run one after the other. Of the last one that was stepped its history is kept while a view may come behind
+/// it, and of each its work. While there is a view that was not stepped yet, `flags` may tell of each edge whether it is in the
+/// view that was stepped last; else there is nothing.
 #[derive(Debug, Drop)]
 pub struct Segment {
     views: List<ViewNo>,
@@ -112,14 +112,16 @@ impl Segment {
         self.flags = flags;
     }
 
-    /// Steps the next view. The kernel holds the arcs of all edges of the graph in the direction of the program. The error is want
-    /// of memory, and it leaves the segment as it was.
+    /// Steps the next view, and is told whether views may be added behind the last one: where none may, no history is kept of the
+    /// last one, since nobody would read it. The kernel holds the arcs of all edges of the graph in the direction of the program.
+    /// The error is want of memory, and it leaves the segment as it was.
     pub fn step<U: Updater>(
         &mut self,
         alloc: Global,
         plan: Plan<'_>,
         matrix: &Matrix,
         kernel: &mut Kernel,
+        grows: bool,
         updater: &mut U,
     ) -> Result<Given, NoMemory>
         requires plan { MayRun plan kernel.old }
@@ -131,25 +133,37 @@ impl Segment {
         ensures kernel { OnOk result (IsKernel plan.entry.graph.now kernel.new) }
         ensures rows { kernel.new.rows ≡ kernel.old.rows }
         ensures stands { OnOk result (SegmentStands (task_of U.answer plan.entry matrix.now) self.new) }
+        ensures history { OnOk result (grows ≡ true → KeepsHistory (task_of U.answer plan.entry matrix.now) self.new) }
+        ensures unread { OnOk result (grows ≡ false → IsFinished self.new → self.new.history ≡ None) }
         ensures views { OnOk result (self.new.views ≡ self.old.views) }
         ensures work { IfOk result (λ given. self.new.works ≡ self.old.works ++ (work_of (task_of U.answer plan.entry matrix.now) (last_stepped self.old) given.view.0 ∷ [])) }
         ensures given { IfOk result (IsGiven (task_of U.answer plan.entry matrix.now) self.old) }
         ensures err { OnErr result (self.new ≡ self.old) }
         ensures calls { IfOk result (λ given. U.calls updater.new ≡ U.calls updater.old + work_of (task_of U.answer plan.entry matrix.now) (last_stepped self.old) given.view.0) }
     {
-        let setting = Setting { plan, matrix };
+        let last = self.views.len() - 1;
+        let unfinished = self.works.len() < last;
+        let keeps = is_read(grows, unfinished);
+        let setting = Setting {
+            plan,
+            matrix,
+            keeps,
+        };
         let view = self.views.as_slice()[self.works.len()];
-        let (before, stepped, flags) = self.step_view(alloc, setting, kernel, view, updater)?;
-        let Stepped {
+        let (before, made) = self.step_view(alloc, setting, kernel, view, updater)?;
+        let Made {
             history,
+            flags,
+            ended,
+        } = made;
+        let Ended {
             outcome,
             change,
             work,
-        } = stepped;
+        } = ended;
         self.works.push(work)?;
-        let unfinished = self.works.len() < self.views.len();
         let kept = Kept {
-            history: mem::replace(&mut self.history, Some(history)),
+            history: mem::replace(&mut self.history, history),
             flags: mem::replace(&mut self.flags, unfinished.then_some(flags)),
         };
         Ok(Given {
@@ -161,8 +175,7 @@ impl Segment {
         })
     }
 
-    // Steps a view behind the last one that was stepped. The answer tells which one that is, if there is one, and the flags
-    // of the view.
+    // Steps a view behind the last one that was stepped. The answer tells which one that is, if there is one.
     fn step_view<U: Updater>(
         &self,
         alloc: Global,
@@ -170,22 +183,25 @@ impl Segment {
         kernel: &mut Kernel,
         view: ViewNo,
         updater: &mut U,
-    ) -> Result<(Option<ViewNo>, Stepped, Vec<bool>), NoMemory>
+    ) -> Result<(Option<ViewNo>, Made), NoMemory>
         requires setting { IsSetting setting kernel.old }
         requires views { All (IsView setting.matrix.now) self.now.views }
         requires view { IsView setting.matrix.now view }
         requires stands { SegmentStands (task_in U.answer setting) self.now }
+        requires history { KeepsHistory (task_in U.answer setting) self.now }
         ensures kernel { OnOk result (IsKernel setting.entry.plan.graph.now kernel.new) }
         ensures rows { kernel.new.rows ≡ kernel.old.rows }
         ensures before { IfOk result (λ made. place_of made.0 ≡ last_stepped self.now) }
-        ensures step { IfOk result (λ made. IsStep (task_in U.answer setting.entry) (last_stepped self.now) view.0 made.1) }
-        ensures flags { IfOk result (λ made. made.2.items ≡ flags_of setting.entry.matrix.now view.0) }
-        ensures calls { IfOk result (λ made. U.calls updater.new ≡ U.calls updater.old + made.1.work) }
+        ensures step { IfOk result (λ made. IsStep (task_in U.answer setting.entry) (last_stepped self.now) view.0 made.1.ended) }
+        ensures kept { IfOk result (λ made. setting.entry.keeps ≡ true → HistoryOf (task_in U.answer setting.entry) (Some view.0) made.1.history) }
+        ensures passed { IfOk result (λ made. setting.entry.keeps ≡ false → made.1.history ≡ None) }
+        ensures flags { IfOk result (λ made. made.1.flags.items ≡ flags_of setting.entry.matrix.now view.0) }
+        ensures calls { IfOk result (λ made. U.calls updater.new ≡ U.calls updater.old + made.1.ended.work) }
     {
         match &self.history {
             None => {
-                let (stepped, flags) = step_first(alloc, setting, kernel, view, updater)?;
-                Ok((None, stepped, flags))
+                let made = step_first(alloc, setting, kernel, view, updater)?;
+                Ok((None, made))
             }
             Some(history) => {
                 let before = self.views.as_slice()[self.works.len() - 1];
@@ -194,9 +210,18 @@ impl Segment {
                     history,
                     flags: &self.flags,
                 };
-                let (stepped, flags) = step_later(alloc, setting, kernel, last, view, updater)?;
-                Ok((Some(before), stepped, flags))
+                let made = step_later(alloc, setting, kernel, last, view, updater)?;
+                Ok((Some(before), made))
             }
         }
     }
+}
+
+// Whether the history of a view will be read: views may come behind it, or do.
+fn is_read(grows: bool, unfinished: bool) -> bool
+    ensures grows { grows ≡ true → result ≡ true }
+    ensures unfinished { unfinished ≡ true → result ≡ true }
+    ensures unread { grows ≡ false → unfinished ≡ false → result ≡ false }
+{
+    grows || unfinished
 }

@@ -8,7 +8,7 @@ use Rattle.view_engine.specs.Engines.{Stands, IsSameRun}
 use Rattle.view_turns.specs.Turns.{after_draw, after_turns, next_segment, HasTurned, AreTurned}
 
 pub run_on : (a b c : Engine) → IsSameRun a b → IsSameRun b c → IsSameRun a c
-run_on a b c first next = record { graph = next.graph ∙ first.graph; program = next.program ∙ first.program; rounds = next.rounds ∙ first.rounds; split = next.split ∙ first.split }
+run_on a b c first next = record { graph = next.graph ∙ first.graph; program = next.program ∙ first.program; rounds = next.rounds ∙ first.rounds; split = next.split ∙ first.split; grows = next.grows ∙ first.grows }
 
 -- the stream behind one more turn
 pub drawn_on : (draws now new : Option Draws) (n : ℕ) → now ≡ after_turns draws n → new ≡ after_draw now → new ≡ after_turns draws (n + 1)

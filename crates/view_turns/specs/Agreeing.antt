@@ -27,10 +27,10 @@ use Rattle.view_matrix.specs.Matrices.{MatrixData, IsView, edges_in, in_exactly_
 use Rattle.result_tables.specs.Results.{ResultsData}
 use Rattle.view_order.specs.Greedy.{numbers}
 use Rattle.view_segment.specs.declared.segment.Segment.{Segment}
-use Rattle.view_segment.specs.Segments.{SegmentStands, HistoryOf, FlagsOf, last_of, last_stepped, stepped, last_values}
+use Rattle.view_segment.specs.Segments.{KeepsHistory, SegmentStands, HistoryOf, FlagsOf, last_of, last_stepped, stepped, last_values}
 use Rattle.view_segment.specs.Tasks.{Task, view_arcs, arcs_before, lone_of, work_of, works_from, works_of}
 use Rattle.view_engine.specs.declared.engine.Engine.{Engine}
-use Rattle.view_engine.specs.Engines.{Stands, HoldsView, KeepsLater, last_views, segments_in, assigned_in}
+use Rattle.view_engine.specs.Engines.{Stands, HoldsView, KeepsLast, KeepsLater, last_views, segments_in, assigned_in}
 use Rattle.view_engine.specs.Splits.{edges_before, difference, differences, first_number, later_sum, first_edges, later_edges, counts_of, with_next, segments_of}
 
 -- ---- lists
@@ -186,13 +186,21 @@ module _ (answer : Answer) (program : Program) (g : GraphData) (rounds : Rounds)
   flags_by None (Some flags) hb are = are
   flags_by (Some v) (Some flags) hb are = are ∙ ap (λ (edges : List EdgeNo). map (λ e. is_in edges (edge e)) (range_with_len 0 (length g.ends))) hb
 
+  same_keeps : (s : Segment) → All Same (numbers s.views) → KeepsHistory t s → KeepsHistory u s
+  same_keeps s all keeps = history_by (last_stepped s) s.history (same_last (stepped s) (All-take Same (length s.works) (numbers s.views) all)) keeps
+
+  same_kept : (ss : List Segment) → All (λ (s : Segment). All Same (numbers s.views)) ss → KeepsLast t ss → KeepsLast u ss
+  same_kept [] all keeps = tt
+  same_kept (s ∷ []) all keeps = same_keeps s (all_first (λ (r : Segment). All Same (numbers r.views)) s [] all) keeps
+  same_kept (s ∷ r ∷ ss) all keeps = same_kept (r ∷ ss) (all_rest (λ (x : Segment). All Same (numbers x.views)) s (r ∷ ss) all) keeps
+
   same_stands : (s : Segment) → All Same (numbers s.views) → SegmentStands t s → SegmentStands u s
   same_stands s all stands =
       let done : All Same (stepped s) = All-take Same (length s.works) (numbers s.views) all in
       record {
         few = stands.few;
         works = stands.works ∙ same_works (stepped s) done;
-        history = history_by (last_stepped s) s.history (same_last (stepped s) done) stands.history;
+        history = λ left. same_keeps s all (stands.history left);
         flags = flags_by (last_stepped s) s.flags (same_last (stepped s) done) stands.flags;
         done = stands.done;
       }
@@ -251,5 +259,6 @@ stands_by_edges answer m other e live views same stands =
           let of_views : All (λ (v : ViewNo). P v.0) s.views = all_mapped (λ (v : ViewNo). v.0) P s.views (each_same i d lt) in
           let of_first : All (λ (v : ViewNo). P v.0) (take (length s.works) s.views) = All-take (λ (v : ViewNo). P v.0) (length s.works) s.views of_views in
           λ j x less. same_holds answer program g e.rounds f h e.results (get_or (take (length s.works) s.views) j x) (of_first j x less) (stands.holds i d lt j x less);
+      keeps = λ on. same_kept answer program g e.rounds f h (segments_in e) each_same (stands.keeps on);
       only = stands.only;
     }

@@ -109,6 +109,7 @@ fn turn_one<U: Updater>(
     ensures fresh { OnOk result (engine.new.spent ≡ false) }
     ensures stands { OnOk result (Stands U.answer matrix.now engine.new) }
     ensures order { OnOk result (engine.new.order ≡ engine.old.order) }
+    ensures grows { OnOk result (engine.new.grows ≡ engine.old.grows) }
 {
     if number >= engine.segments() {
         return Ok(None);
@@ -143,6 +144,7 @@ fn turned<U: Updater>(
     ensures fresh { OnOk result (engine.new.spent ≡ false) }
     ensures stands { OnOk result (Stands U.answer matrix.now engine.new) }
     ensures order { OnOk result (engine.new.order ≡ engine.old.order) }
+    ensures grows { OnOk result (engine.new.grows ≡ engine.old.grows) }
 {
     for number in turns {
         let turn = turn_one(engine, matrix, *number, updater)?;
@@ -177,6 +179,7 @@ fn added<U: Updater>(
     requires engine { IsEngine engine.old }
     requires fresh { engine.old.spent ≡ false }
     requires stands { Stands U.answer matrix.now engine.old }
+    requires grows { engine.old.grows ≡ true }
     requires views { All (IsView matrix.now) (engine.old.order ++ later.now) }
     requires distinct { AreDistinct (engine.old.order ++ later.now) }
     requires few { length engine.old.order + length later.now ≤ 1_024 }
@@ -215,6 +218,7 @@ fn early<U: Updater>(
     ensures fresh { OnOk result (engine.new.spent ≡ false) }
     ensures stands { OnOk result (Stands U.answer matrix.now engine.new) }
     ensures order { OnOk result (engine.new.order ≡ engine.old.order) }
+    ensures grows { OnOk result (engine.new.grows ≡ engine.old.grows) }
 {
     push_number(alloc, text, Some(u64::from(engine.segments())))?;
     turned(text, engine, matrix, turns, updater)?;
@@ -237,12 +241,32 @@ fn whole<U: Updater>(
     requires engine { IsEngine engine.old }
     requires fresh { engine.old.spent ≡ false }
     requires stands { Stands U.answer matrix.now engine.old }
+    requires grows { engine.old.grows ≡ true }
     requires views { All (IsView matrix.now) (engine.old.order ++ later.now) }
     requires distinct { AreDistinct (engine.old.order ++ later.now) }
     requires few { length engine.old.order + length later.now ≤ 1_024 }
 {
     early(alloc, text, engine, matrix, turns, updater)?;
     added(text, engine, matrix, later, more, updater)?;
+    text.push_str(" ")?;
+    push_views(alloc, text, engine)
+}
+
+// The same of an engine that is closed, so that none is added.
+fn closed<U: Updater>(
+    alloc: Global,
+    text: &mut String,
+    engine: &mut Engine,
+    matrix: &Matrix,
+    turns: &[u32],
+    updater: &mut U,
+) -> Result<(), NoMemory>
+    requires engine { IsEngine engine.old }
+    requires fresh { engine.old.spent ≡ false }
+    requires stands { Stands U.answer matrix.now engine.old }
+{
+    engine.close();
+    early(alloc, text, engine, matrix, turns, updater)?;
     text.push_str(" ")?;
     push_views(alloc, text, engine)
 }
@@ -271,6 +295,9 @@ fn played_on<U: Updater>(
     let program = hops(alloc, 1)?;
     let rounds = Rounds::Within(3);
     let mut engine = Engine::new(alloc, graph, matrix, &program, first, split, rounds)?;
+    if later.is_empty() {
+        return closed(alloc, text, &mut engine, matrix, turns, updater);
+    }
     whole(
         alloc,
         text,
@@ -348,11 +375,12 @@ fn graph_in(alloc: Global, nodes: &[u8], edges: &[u8]) -> Result<Graph, Fail> {
     Ok(graph)
 }
 
-// Three views, and a fourth once they are stepped.
+// So many of the four views, and the others once they are stepped.
 fn counted<L: Ledger>(
     alloc: Global,
     text: &mut String,
     graph: &Graph,
+    count: usize,
     split: SplitRule,
     turns: &[u32],
     more: &[u32],
@@ -366,18 +394,47 @@ fn counted<L: Ledger>(
     let mut steps = Steps::<L>::new(blank);
     let matrix = four_in(alloc, graph)?;
     played(
-        alloc, text, graph, &matrix, 3, split, turns, more, &mut steps,
+        alloc, text, graph, &matrix, count, split, turns, more, &mut steps,
     )
 }
 
 // The same of four nodes.
-fn on_four(alloc: Global, split: SplitRule, turns: &[u32], more: &[u32]) -> Result<String, Fail>
+fn views_on_four(
+    alloc: Global,
+    count: usize,
+    split: SplitRule,
+    turns: &[u32],
+    more: &[u32],
+) -> Result<String, Fail>
     requires { AllowsSplit split }
 {
     let graph = graph_in(alloc, NODES, EDGES)?;
     let mut text = String::new(alloc);
-    counted::<Brand>(alloc, &mut text, &graph, split, turns, more, Blank::new(1))?;
+    counted::<Brand>(
+        alloc,
+        &mut text,
+        &graph,
+        count,
+        split,
+        turns,
+        more,
+        Blank::new(1),
+    )?;
     Ok(text)
+}
+
+// Three views of four nodes, and a fourth once they are stepped.
+fn on_four(alloc: Global, split: SplitRule, turns: &[u32], more: &[u32]) -> Result<String, Fail>
+    requires { AllowsSplit split }
+{
+    views_on_four(alloc, 3, split, turns, more)
+}
+
+// All four views, with an engine that is closed.
+fn all_on_four(alloc: Global, split: SplitRule, turns: &[u32]) -> Result<String, Fail>
+    requires { AllowsSplit split }
+{
+    views_on_four(alloc, 4, split, turns, &[])
 }
 
 #[test]
@@ -418,6 +475,26 @@ fn two_views_a_segment(rt: HostRuntime) -> Result<(), Fail> {
     assert_eq!(rt;
         text.as_str(),
         "2 MMM 2 MF 0 7 Settled(2):012-;0 3 Settled(1):011-;1 7 Settled(2):0-12;1 0 Settled(2):0-12;"
+    );
+    Ok(())
+}
+
+#[test]
+fn a_closed_engine_answers_the_same(rt: HostRuntime) -> Result<(), Fail> {
+    let alone = all_on_four(rt.alloc(), SplitRule::Every(1), &[3, 2, 0, 1])?;
+    assert_eq!(rt;
+        alone.as_str(),
+        "4 MMMM 4  0 7 Settled(2):012-;1 6 Settled(1):011-;2 7 Settled(2):0-12;3 7 Settled(2):0-12;"
+    );
+    let whole = all_on_four(rt.alloc(), SplitRule::Whole, &[0, 0, 0, 0, 0])?;
+    assert_eq!(rt;
+        whole.as_str(),
+        "1 MMMMF 1  0 7 Settled(2):012-;0 3 Settled(1):011-;0 5 Settled(2):0-12;0 0 Settled(2):0-12;"
+    );
+    let by_works = all_on_four(rt.alloc(), SplitRule::Auto, &[0, 0, 1, 1])?;
+    assert_eq!(rt;
+        by_works.as_str(),
+        "1 MMMM 2  0 7 Settled(2):012-;0 3 Settled(1):011-;1 7 Settled(2):0-12;1 0 Settled(2):0-12;"
     );
     Ok(())
 }

@@ -18,7 +18,7 @@ use std::marker::Brand;
 use std::sync::ledger::{Blank, Ledger};
 use std::test::Fail;
 use surge_outside::{Counted, NoMemory, Steps};
-use vertex_lang::{Program, Rounds, Updater};
+use vertex_lang::{Outcome, Program, Rounds, Updater};
 
 // Answers what was gathered, and counts its calls.
 #[derive(Drop)]
@@ -58,14 +58,28 @@ fn change_text(alloc: Global, change: Change) -> Result<String, AllocError> {
     }
 }
 
-// How a view ended, its work, and each node whose value differs, with its value.
-fn told(alloc: Global, stepped: &Stepped) -> Result<String, AllocError> {
-    let mut text = format!(in alloc; "{:?} work {}:", stepped.outcome, stepped.work)?;
-    for change in stepped.change.as_slice() {
+/// How a view ended, its work, and each node whose value differs, with its value.
+pub(crate) fn ended_text(
+    alloc: Global,
+    outcome: Outcome,
+    work: u64,
+    changes: &[Change],
+) -> Result<String, AllocError> {
+    let mut text = format!(in alloc; "{outcome:?} work {work}:")?;
+    for change in changes {
         text.push_str(change_text(alloc, *change)?.as_str())?;
     }
     text.push_str("\n")?;
     Ok(text)
+}
+
+fn told(alloc: Global, stepped: &Stepped) -> Result<String, AllocError> {
+    ended_text(
+        alloc,
+        stepped.outcome,
+        stepped.work,
+        stepped.change.as_slice(),
+    )
 }
 
 // The step of a view behind another one.

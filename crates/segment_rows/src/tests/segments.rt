@@ -99,7 +99,7 @@ fn step_all<U: Updater>(
 {
     let mut text = String::new(alloc);
     while segment.works().len() < segment.views().len() {
-        let given = segment.step(alloc, plan, matrix, kernel, updater)?;
+        let given = segment.step(alloc, plan, matrix, kernel, false, updater)?;
         text.push_str(given_text(alloc, &given)?.as_str())?;
     }
     Ok(text)

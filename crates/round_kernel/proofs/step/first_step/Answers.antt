@@ -46,12 +46,15 @@ returns-clause-step g c =
     let graph = c.args.plan.graph.now in
     let new = arcs_in c.args.kernel.now.rows.by_head c.args.edges.now in
     let run = c.in_ok-run.ensures.run in
+    let last = c.in_ok-run.run'.last in
     record {
-      history = subst (λ (n : ℕ). IsHistory answer p graph (Some new) n c.in_ok-run.run'.history) c.limit_of.ensures run.history;
-      outcome = c.outcome.ensures
-          ∙ outcome-is answer p graph new c.in_ok-run.run'.history c.limit_of.result run.history run.few run.last c.args.plan.rounds (sym c.limit_of.ensures) (omega (arith, c.requires.plan.some, c.limit_of.ensures));
-      change = c.in_ok-change.ensures ∙ ap (λ (vs : List Val). all_from 0 vs) (c.deref-3.ensures.value ∙ run.new_values) ∙ ap (λ (n : ℕ). all_from 0 (lone answer p graph new n)) c.limit_of.ensures;
-      work_is = run.work_is ∙ ap (λ (n : ℕ). work answer p graph new None n) c.limit_of.ensures;
+      history = λ yes. subst (λ (n : ℕ). IsHistory answer p graph (Some new) n c.in_ok-run.run'.history) c.limit_of.ensures (run.history yes);
+      step = record {
+        outcome = c.outcome.ensures
+            ∙ outcome-is answer p graph new last c.limit_of.result run.last.within run.last.moved (λ less. run.last.still last (omega arith) less) c.args.plan.rounds (sym c.limit_of.ensures) (omega (arith, c.requires.plan.some, c.limit_of.ensures));
+        change = c.in_ok-change.ensures ∙ ap (λ (vs : List Val). all_from 0 vs) (c.deref-3.ensures.value ∙ run.new_values) ∙ ap (λ (n : ℕ). all_from 0 (lone answer p graph new n)) c.limit_of.ensures;
+        work_is = run.work_is ∙ ap (λ (n : ℕ). work answer p graph new None n) c.limit_of.ensures;
+      };
     }
 
 pub returns-clause-kernel : goal.returns-clause-kernel

@@ -8,8 +8,6 @@ use Rattle.vertex_lang.specs.Rounds.{lone, value_at}
 use Rattle.lone_work.specs.Work.{work}
 use Rattle.change_lists.specs.ChangeLists.{changes_from}
 use Rattle.round_kernel.specs.Histories.{IsHistory}
-use Rattle.arc_rows.specs.declared.cached.CachedArcs.{CachedArcs}
-use Rattle.arc_rows.specs.Listings.{AreCached}
 use Rattle.arc_rows.specs.declared.degrees.Degrees.{Degrees}
 use Rattle.arc_rows.specs.Counts.{ArePlain}
 use Rattle.arc_rows.specs.Views.{arcs_in}
@@ -102,15 +100,18 @@ returns-clause-step g c =
     let old = arcs_in all c.args.behind.old.now in
     let new = arcs_in all c.args.behind.new.now in
     let run = c.in_ok-run.ensures.run in
+    let last = c.in_ok-run.run'.last in
     record {
-      history = subst (λ (n : ℕ). IsHistory answer p graph (Some new) n c.in_ok-run.run'.history) c.limit_of.ensures run.history;
-      outcome = c.outcome.ensures
-          ∙ outcome-is answer p graph new c.in_ok-run.run'.history c.limit_of.result run.history run.few run.last c.args.plan.rounds (sym c.limit_of.ensures) (omega (arith, c.requires.plan.some, c.limit_of.ensures));
-      change = c.in_ok-change.ensures
-          ∙ ap (λ (vs : List Val). changes_from 0 vs c.deref-3.result.now) (c.deref-2.ensures.value ∙ run.old_values refl)
-          ∙ ap (λ (vs : List Val). changes_from 0 (lone answer p graph old c.limit_of.result) vs) (c.deref-3.ensures.value ∙ run.new_values)
-          ∙ ap (λ (n : ℕ). changes_from 0 (lone answer p graph old n) (lone answer p graph new n)) c.limit_of.ensures;
-      work_is = run.work_is ∙ ap (λ (n : ℕ). work answer p graph new (Some old) n) c.limit_of.ensures;
+      history = λ yes. subst (λ (n : ℕ). IsHistory answer p graph (Some new) n c.in_ok-run.run'.history) c.limit_of.ensures (run.history yes);
+      step = record {
+        outcome = c.outcome.ensures
+            ∙ outcome-is answer p graph new last c.limit_of.result run.last.within run.last.moved (λ less. run.last.still last (omega arith) less) c.args.plan.rounds (sym c.limit_of.ensures) (omega (arith, c.requires.plan.some, c.limit_of.ensures));
+        change = c.in_ok-change.ensures
+            ∙ ap (λ (vs : List Val). changes_from 0 vs c.deref-3.result.now) (c.deref-2.ensures.value ∙ run.old_values refl)
+            ∙ ap (λ (vs : List Val). changes_from 0 (lone answer p graph old c.limit_of.result) vs) (c.deref-3.ensures.value ∙ run.new_values)
+            ∙ ap (λ (n : ℕ). changes_from 0 (lone answer p graph old n) (lone answer p graph new n)) c.limit_of.ensures;
+        work_is = run.work_is ∙ ap (λ (n : ℕ). work answer p graph new (Some old) n) c.limit_of.ensures;
+      };
     }
 
 pub returns-clause-kernel : goal.returns-clause-kernel

@@ -10,7 +10,8 @@ use Rattle.change_lists.specs.declared.history.History.{History}
 use Rattle.change_lists.specs.ChangeLists.{changes_from}
 use Rattle.arc_rows.specs.Views.{arcs_in, TellsAll}
 use Rattle.round_kernel.specs.Histories.{IsHistory}
-use Rattle.round_kernel.proofs.Ending.{outcome-is}
+use Rattle.round_kernel.specs.Steps.{outcome_of}
+use Rattle.round_kernel.proofs.Ending.{outcome-told}
 use Rattle.round_kernel.proofs.Repeating.{none-turned, no-change, same-history}
 use Rattle.round_kernel.proofs.step.repeated.Goals as goal
 
@@ -38,8 +39,10 @@ returns-clause-step g c =
     let history : IsHistory answer p graph (Some (arcs_in all new)) n made = subst (λ (es : List Bool). IsHistory answer p graph (Some (arcs_in all es)) n made) same
     (same-history answer p graph (Some (arcs_in all old)) n behind.history.now made places c.in_ok-history.ensures.marks c.in_ok-history.ensures.starts is.history) in
     record {
-      history = history;
-      outcome = c.outcome.ensures ∙ outcome-is answer p graph (arcs_in all new) made n history few c.trim.ensures.last plan.rounds refl c.requires.plan.some;
-      change = c.new.ensures ∙ sym (no-change 0 (lone answer p graph (arcs_in all new) n)) ∙ ap (λ (es : List Bool). changes_from 0 (lone answer p graph (arcs_in all es) n) (lone answer p graph (arcs_in all new) n)) (sym same);
-      work_is = sym (equal-nothing answer p graph (arcs_in all new) n) ∙ ap (λ (es : List Bool). work answer p graph (arcs_in all new) (Some (arcs_in all es)) n) (sym same);
+      history = λ yes. history;
+      step = record {
+        outcome = c.outcome.ensures ∙ ap (λ (last : ℕ). outcome_of last plan.rounds) c.changing.ensures ∙ outcome-told answer p graph (arcs_in all new) made n history few c.trim.ensures.last plan.rounds refl c.requires.plan.some;
+        change = c.new.ensures ∙ sym (no-change 0 (lone answer p graph (arcs_in all new) n)) ∙ ap (λ (es : List Bool). changes_from 0 (lone answer p graph (arcs_in all es) n) (lone answer p graph (arcs_in all new) n)) (sym same);
+        work_is = sym (equal-nothing answer p graph (arcs_in all new) n) ∙ ap (λ (es : List Bool). work answer p graph (arcs_in all new) (Some (arcs_in all es)) n) (sym same);
+      };
     }

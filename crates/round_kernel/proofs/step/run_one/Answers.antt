@@ -8,21 +8,22 @@ use Rattle.change_lists.specs.ChangeLists.{HasNodes}
 use Rattle.lone_work.specs.CountLaws.{work-by-rounds}
 use Rattle.round_kernel.specs.Changes.{made_changes, made_marks}
 use Rattle.round_kernel.specs.Frames.{AreStirred, count_in, counted_at, marked_at, new_arcs, old_arcs}
-use Rattle.round_kernel.proofs.Growing.{rounds-more, changes-last}
+use Rattle.round_kernel.proofs.Logging.{log-more, changed-before}
 use Rattle.round_kernel.proofs.KeptRounds.{kept-next, kept-on}
 use Rattle.round_kernel.proofs.step.run_one.Goals as goal
 
 pub go_on-requires-clause-before : goal.go_on-requires-clause-before
-go_on-requires-clause-before g c = λ later. changes-last g.U.Updater.answer c.args.frame c.args.history.now c.args.round c.requires.history later c.changes_before-before.result.now (c.changes_before-before.ensures later)
+go_on-requires-clause-before g c = λ later. changed-before g.U.Updater.answer c.args.frame c.args.round c.args.log.now c.requires.log later c.before-before.result.now c.before-before.ensures.kept c.before-before.ensures.passed
 
-pub returns-clause-history : goal.returns-clause-history
-returns-clause-history g c =
+pub returns-clause-log : goal.returns-clause-log
+returns-clause-log g c =
     let answer = g.U.Updater.answer in
     let f = c.args.frame in
     let r = c.args.round in
     let made = c.in_node_order.new.made in
-    rounds-more answer f c.args.history.now c.add_round.new.history (made_changes made) (made_marks made) r c.requires.history
-    c.in_ok-add_round.ensures.changes c.in_ok-add_round.ensures.first c.in_ok-add_round.ensures.later c.in_ok-in_node_order.ensures.changes
+    let grown = c.in_ok-add_round.ensures in
+    log-more answer f r c.args.log.now c.add_round.new.self (made_changes made) (made_marks made) c.requires.log c.add_round.ensures.keeps
+    grown.changes grown.first grown.later grown.passed c.add_round.ensures.still c.add_round.ensures.moved c.in_ok-in_node_order.ensures.changes
     (λ later. subst (λ (ns : List NodeNo). HasNodes (count_in f) (marked_at answer f r) ns) (sym c.in_node_order.ensures.marks) (c.in_ok-work.ensures.behind.made.marks later))
 
 pub returns-clause-state : goal.returns-clause-state

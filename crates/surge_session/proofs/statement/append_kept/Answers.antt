@@ -5,7 +5,7 @@ use Rattle.std.proofs.lemmas.Option.{slice_get_within}
 use Rattle.surge_outside.specs.Written.{appended, GrewByFront}
 use Rattle.surge_session.specs.Live.{graph_at}
 use Rattle.surge_session.specs.Output.{made_at, kept_text}
-use Rattle.surge_session.proofs.Appending.{has_before, first_within, all_below, few_before, in_no_phases, kept_with_more, within_added, within_views, shows_views, text_of_added}
+use Rattle.surge_session.proofs.Appending.{has_before, first_within, all_below, few_before, has_name, in_no_phases, kept_with_more, within_added, within_views, shows_views, text_of_added}
 use Rattle.surge_session.proofs.Places.{live_size}
 use Rattle.surge_session.proofs.Stating.{at_index, matrix_here, kept_apart}
 use Rattle.surge_session.proofs.Texts.{if_ok, kept_elsewhere}
@@ -132,6 +132,23 @@ run_more-requires-clause-unphased g c =
     let m = c.index-made-place.result in
     let m_at : slice_get made place ≡ Some m = matrix_here graph p (n + 1) made c.requires.matrices place m within c.index-made-place.is in
     in_no_phases answer graph p n place c.requires.step.0 c.requires.step.1 made k kept run run_at c.if-run-place.false c.requires.step.2 c.requires.matrices m m_at c.args.added.first c.requires.first
+
+pub run_more-requires-clause-kept : goal.run_more-requires-clause-kept
+run_more-requires-clause-kept g c =
+    let answer = g.U.Updater.answer in
+    let graph = c.args.setting.graph.now in
+    let p = c.args.setting.plan.now in
+    let n = c.args.n in
+    let place = c.args.added.place in
+    let made = c.args.added.made.now in
+    let k = c.args.kept.now in
+    let kept = c.requires.kept in
+    let run = c.index-as_slice-kept.result in
+    let run_at : slice_get p.runs k.place ≡ Some run = at_index c.as_slice.result.now p.runs k.place run kept.run c.as_slice.ensures kept.at c.index-as_slice-kept.is in
+    let within : place < length p.collections = slice_get_within p.collections place c.args.added.collection.now c.requires.collection in
+    let m = c.index-made-place.result in
+    let m_at : slice_get made place ≡ Some m = matrix_here graph p (n + 1) made c.requires.matrices place m within c.index-made-place.is in
+    has_name answer graph p n place c.requires.step.0 c.requires.step.1 made k kept run run_at c.if-run-place.false c.requires.step.2 c.requires.matrices m m_at c.args.added.first c.requires.first
 
 pub write_from-requires-clause-live : goal.write_from-requires-clause-live
 write_from-requires-clause-live g c =

@@ -9,4 +9,5 @@ invariant-loop-number g l = record {
   fresh : l.engine.spent ≡ false;
   stands : Stands g.U.Updater.answer l.matrix l.engine;
   order : l.engine.order ≡ l.fn.engine.order;
+  grows : l.engine.grows ≡ l.fn.engine.grows;
 }

@@ -1,17 +1,17 @@
-use Rattle.std.proofs.Common.{List, subst}
-use Rattle.std.specs.Prelude.{IfOk}
-use Rattle.vertex_lang.specs.declared.arc.Arc.{Arc}
-use Rattle.round_kernel.specs.Plans.{IsFirst}
+use Rattle.std.proofs.Common.{◌∙◌, Some, refl, subst, sym}
+use Rattle.vertex_lang.specs.Lone.{number_of}
+use Rattle.change_lists.specs.declared.history.History.{History}
+use Rattle.arc_rows.specs.Views.{arcs_in}
+use Rattle.round_kernel.specs.Histories.{IsHistory}
 use Rattle.round_kernel.proofs.kernel.Kernel.first_step.Goals as goal
 
-pub first_step-requires-clause-plan : goal.first_step-requires-clause-plan
-first_step-requires-clause-plan g c = record {
-  checked = c.requires.plan.checked;
-  kernel = c.in_ok-chosen.ensures.kernel;
-  some = c.requires.plan.some;
-  limit = c.requires.plan.limit;
-}
-
-pub returns-then-are_few-clause-step : goal.returns-then-are_few-clause-step
-returns-then-are_few-clause-step g c =
-    subst (λ (xs : List Arc). IfOk c.first_step.result (IsFirst g.U.Updater.answer c.args.plan xs)) c.in_ok-chosen.ensures.new c.first_step.ensures.step
+pub returns-clause-step : goal.returns-clause-step
+returns-clause-step g c =
+    let logged = c.in_ok-logged.ensures.step in
+    let made = c.stepped.ensures in
+    record {
+      history = subst (λ (h : History). IsHistory g.U.Updater.answer c.args.plan.program.now c.args.plan.graph.now (Some (arcs_in c.args.self.now.rows.by_head c.args.edges.now)) (number_of c.args.plan.rounds) h) (sym made.history) (logged.history refl);
+      outcome = made.outcome ∙ logged.step.outcome;
+      change = made.change ∙ logged.step.change;
+      work_is = made.work ∙ logged.step.work_is;
+    }

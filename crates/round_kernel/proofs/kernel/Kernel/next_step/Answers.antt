@@ -1,39 +1,17 @@
-use Rattle.std.proofs.Common.{List, Some, subst, sym}
-use Rattle.std.specs.Prelude.{IfOk}
-use Rattle.vertex_lang.specs.declared.arc.Arc.{Arc}
+use Rattle.std.proofs.Common.{◌∙◌, Some, refl, subst, sym}
 use Rattle.vertex_lang.specs.Lone.{number_of}
+use Rattle.change_lists.specs.declared.history.History.{History}
 use Rattle.arc_rows.specs.Views.{arcs_in}
 use Rattle.round_kernel.specs.Histories.{IsHistory}
-use Rattle.round_kernel.specs.Plans.{IsNext}
 use Rattle.round_kernel.proofs.kernel.Kernel.next_step.Goals as goal
 
-pub next_step-requires-clause-plan : goal.next_step-requires-clause-plan
-next_step-requires-clause-plan g c = record {
-  checked = c.requires.plan.checked;
-  kernel = c.in_ok-chosen.ensures.kernel;
-  some = c.requires.plan.some;
-  limit = c.requires.plan.limit;
-}
-
-pub next_step-requires-clause-along : goal.next_step-requires-clause-along
-next_step-requires-clause-along g c = c.in_ok-chosen.ensures.along c.args.plan.program.now.along c.requires.along
-
-pub next_step-requires-clause-behind : goal.next_step-requires-clause-behind
-next_step-requires-clause-behind g c =
-    let plan = c.args.plan in
-    let is = c.requires.behind in
+pub returns-clause-step : goal.returns-clause-step
+returns-clause-step g c =
+    let logged = c.in_ok-logged.ensures.step in
+    let made = c.stepped.ensures in
     record {
-      old = is.old;
-      new = is.new;
-      turned = is.turned;
-      all_turned = is.all_turned;
-      history = subst (λ (xs : List Arc). IsHistory g.U.Updater.answer plan.program.now plan.graph.now (Some xs) (number_of plan.rounds) c.args.behind.history.now) (sym c.in_ok-chosen.ensures.old) is.history;
+      history = subst (λ (h : History). IsHistory g.U.Updater.answer c.args.plan.program.now c.args.plan.graph.now (Some (arcs_in c.args.self.now.rows.by_head c.args.behind.new.now)) (number_of c.args.plan.rounds) h) (sym made.history) (logged.history refl);
+      outcome = made.outcome ∙ logged.step.outcome;
+      change = made.change ∙ logged.step.change;
+      work_is = made.work ∙ logged.step.work_is;
     }
-
-pub returns-then-are_few-clause-step : goal.returns-then-are_few-clause-step
-returns-then-are_few-clause-step g c =
-    let answer = g.U.Updater.answer in
-    let plan = c.args.plan in
-    let step = c.next_step in
-    subst (λ (xs : List Arc). IfOk step.result (IsNext answer plan xs (arcs_in c.args.self.now.rows.by_head c.args.behind.new.now))) c.in_ok-chosen.ensures.old
-    (subst (λ (xs : List Arc). IfOk step.result (IsNext answer plan (arcs_in c.in_ok-chosen.chosen.rows.by_head c.args.behind.old.now) xs)) c.in_ok-chosen.ensures.new step.ensures.step)

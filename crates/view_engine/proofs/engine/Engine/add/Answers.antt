@@ -27,7 +27,7 @@ returns-in-Ok c =
       run = run_added e c.args.views.now c.append.new.self grew n more;
       order = more.order ∙ grew;
       works = more.works;
-      stands = stands_added e c.args.views.now c.append.new.self grew n more c.args.matrix.now c.requires.engine c.requires.finished c.requires.views c.requires.distinct c.in-Ok.ensures.engine c.in-Ok.ensures.stands;
+      stands = stands_added e c.args.views.now c.append.new.self grew n more c.args.matrix.now c.requires.engine c.requires.grows c.requires.finished c.requires.views c.requires.distinct c.in-Ok.ensures.engine c.in-Ok.ensures.stands;
       err = tt;
     }
 

@@ -1,5 +1,5 @@
 -- A new engine stands.
-use Rattle.std.proofs.Common.{refl, sym, ap, ◌∙◌, subst, All, length, arith, None, false}
+use Rattle.std.proofs.Common.{refl, sym, ap, ◌∙◌, subst, All, length, arith, None, true, false}
 use Rattle.view_matrix.specs.Matrices.{IsView}
 use Rattle.graph_model.specs.GraphData.{AreDistinct}
 use Rattle.view_engine.specs.declared.engine.Engine.{Engine}
@@ -32,6 +32,7 @@ returns c =
       kernel = None;
       assigned = 0;
       later = 0;
+      grows = true;
       spent = false;
     } in
     let first : IsFirst e = record {
@@ -57,5 +58,6 @@ returns c =
       split = more.run.split;
       order = more.order ∙ c.in_ok-copied.ensures;
       works = λ k. more.works k ∙ first_works e first k;
+      grows = more.run.grows;
       fresh = more.spent;
     }

@@ -74,7 +74,7 @@ returns-in-Ok g c =
       engine = engine_now g.U.Updater.answer m e fresh engine stands k s at given is t work c.in_ok-given.ensures.views c.in_ok-given.ensures.work c.in_ok-given.ensures.stands segments kernel c.hold.new.results refl kept refl ready;
       moved = has_stepped g.U.Updater.answer m e fresh engine stands k s at given is t work c.in_ok-given.ensures.views c.in_ok-given.ensures.work c.in_ok-given.ensures.stands segments kernel c.hold.new.results refl kept
           (g.U.Counted.calls c.args.updater.now) (g.U.Counted.calls c.step.new.updater) c.in_ok-given.ensures.calls;
-      stands = so_far_now g.U.Updater.answer m e fresh engine stands k s at given is t work c.in_ok-given.ensures.views c.in_ok-given.ensures.work c.in_ok-given.ensures.stands segments kernel c.hold.new.results refl kept;
+      stands = so_far_now g.U.Updater.answer m e fresh engine stands k s at given is t work c.in_ok-given.ensures.views c.in_ok-given.ensures.work c.in_ok-given.ensures.stands segments kernel c.hold.new.results refl kept (λ on last. c.in_ok-given.ensures.history (c.goes_on-grows.ensures.goes_on on last));
       back = leads_back e k s t given.kept work at c.in_ok-given.ensures.views c.in_ok-given.ensures.work is.kept segments kernel ready refl given c.hold.new.results kept;
       err = tt;
     }

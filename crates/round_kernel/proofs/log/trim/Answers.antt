@@ -3,7 +3,7 @@ use Rattle.std.proofs.lemmas.Bool.{cases_lt}
 use Rattle.std.proofs.lemmas.List.{get_or-take, length-take}
 use Rattle.std.proofs.Math.ListN.{get_or-eq_default}
 use Rattle.change_lists.specs.declared.history.Change.{Change}
-use Rattle.round_kernel.proofs.step.trim.Goals as goal
+use Rattle.round_kernel.proofs.log.trim.Goals as goal
 
 pub loop-count-init : goal.loop-count-init
 loop-count-init c = record { within = omega arith; empty = λ k low. get_or-eq_default c.args.changes.now [] (omega (arith, low, c.len-count.ensures)) }

@@ -1,5 +1,5 @@
 use Rattle.std.proofs.Common.{◌≡◌, ◌≤◌, ℕ, [], get_or, length}
-use Rattle.round_kernel.proofs.step.trim.Given as goal
+use Rattle.round_kernel.proofs.log.trim.Given as goal
 
 abbrev pub invariant-loop-count : goal.invariant-loop-count
 invariant-loop-count l = record {
